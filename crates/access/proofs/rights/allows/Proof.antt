@@ -1,0 +1,72 @@
+-- `allows` goes by the cases of its definition.
+use Rattle.access.specs.Rights.{allowsOf}
+use borrow.Author.Needs.{needs}
+use Rattle.access.proofs.rights.allows.Statement.{statement}
+use Rattle.access.proofs.rights.allows.Tie as tie
+
+enum-told : tie.Need-enum-told
+enum-told c = search needs
+
+enum-told-2 : tie.Need-enum-told-2
+enum-told-2 c = search needs
+
+enum-told-3 : tie.Need-enum-told-3
+enum-told-3 c = search needs
+
+enum-told-4 : tie.Need-enum-told-4
+enum-told-4 c = search needs
+
+enum-told-5 : tie.Need-enum-told-5
+enum-told-5 c = search needs
+
+enum-told-6 : tie.Need-enum-told-6
+enum-told-6 c = search needs
+
+enum-told-7 : tie.Need-enum-told-7
+enum-told-7 c = search needs
+
+enum-told-8 : tie.Need-enum-told-8
+enum-told-8 c = search needs
+
+returns : tie.Need-returns
+unfolding allowsOf
+returns c = cc
+
+returns-2 : tie.Need-returns-2
+unfolding allowsOf
+returns-2 c = cc
+
+returns-3 : tie.Need-returns-3
+unfolding allowsOf
+returns-3 c = cc
+
+returns-4 : tie.Need-returns-4
+unfolding allowsOf
+returns-4 c = cc
+
+returns-5 : tie.Need-returns-5
+unfolding allowsOf
+returns-5 c = cc
+
+returns-6 : tie.Need-returns-6
+unfolding allowsOf
+returns-6 c = cc
+
+pub allows-spec : {M : Type 1} → statement M
+allows-spec =
+    tie.close
+    (tie.spec
+    enum-told
+    enum-told-2
+    enum-told-3
+    enum-told-4
+    enum-told-5
+    enum-told-6
+    enum-told-7
+    enum-told-8
+    returns
+    returns-2
+    returns-3
+    returns-4
+    returns-5
+    returns-6)

@@ -1,0 +1,12 @@
+-- The starred examples hold, by computation.
+-- Assumes nothing.
+use mathlib.Core.Path.{refl}
+use Rattle.layout.specs.Layout.{sectorOf, trailerOf, isTrailer, groupAt, groupOf}
+use Rattle.access.specs.Bits.{wellFormed, bitOf, groupBits, bitsOf}
+use Rattle.value.specs.Block.{encodeOf, decodeOf, agreeing}
+use Rattle.value.specs.Sum.{totalOf}
+use Rattle.demands.specs.Starred.{starred, answer, Right}
+
+pub starred-right : Right starred
+unfolding starred answer sectorOf trailerOf isTrailer groupAt groupOf wellFormed bitOf groupBits bitsOf encodeOf decodeOf agreeing totalOf
+starred-right = refl

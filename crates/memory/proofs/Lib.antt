@@ -1,0 +1,3 @@
+pub mod Copy
+pub mod Ways
+pub mod Laws

@@ -1,0 +1,4 @@
+pub mod Ints
+pub mod Sums
+pub mod Blocks
+pub mod Words
