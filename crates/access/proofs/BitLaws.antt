@@ -47,6 +47,24 @@ blocked x g h = go (wellFormed x) refl
     go true e = absurd (h (agrees x e))
     go false e = rw e
 
+-- what an answer of the leaf says, in the words of the code that asked
+module _ (x : AccessBytes) (g : Group) (r : Bits) (asked : r ≡ bitsOf x g) where
+  pub closed : r ≡ Blocked → wellFormed x ≡ false
+  unfolding bitsOf
+  closed e = go (wellFormed x) refl
+    where
+      go : (t : Bool) → wellFormed x ≡ t → wellFormed x ≡ false
+      go false q = q
+      go true q = let p : Blocked ≡ Are (groupBits x g) = sym e ∙ rw q at asked in cc
+
+  pub opened : (n : ℕ) → r ≡ Are n → (wellFormed x ≡ true) × (n ≡ groupBits x g)
+  unfolding bitsOf
+  opened n e = go (wellFormed x) refl
+    where
+      go : (t : Bool) → wellFormed x ≡ t → (wellFormed x ≡ true) × (n ≡ groupBits x g)
+      go true q = let p : Are n ≡ Are (groupBits x g) = sym e ∙ rw q at asked in (q, cc)
+      go false q = let p : Are n ≡ Blocked = sym e ∙ rw q at asked in (cc, cc)
+
 -- of four things, the one of a group
 abbrev pub oneOf : Group → ℕ → ℕ → ℕ → ℕ → ℕ
 oneOf First a b c d = a

@@ -6,7 +6,7 @@ use mathlib.Core.List.{List, _++_}
 use Prim.Native.Nat.{ℕ, _+_, _*_, _-_, _<_, _≤_}
 use native.Mathlib.Omega.{arith}
 use lib.ListN.{length, take, drop, getD, replicate, length-take, length-replicate, getD-replicate, List·getD-eq-default}
-use lib.Seq.{getD-take, getD-drop}
+use lib.Seq.{getD-take, getD-drop, take-take}
 use lib.Dec.{ltb}
 use borrow.Author.Tests.{ltb-true, ltb-false}
 use borrow.Rule.Slice.PartMut.{putMid, post-is}
@@ -44,11 +44,11 @@ module _ (image : List ℕ) (b : Block) (t : Bool) (asked : t ≡ hasBlock (leng
   unfolding byteOf contentOf
   byte-none i e = rw (← asked, e) (sym (zeros 16 i))
 
-  pub content-in : (at : ℕ) (part : List ℕ) → t ≡ true → at ≡ 16 * b .0 → part ≡ take (at + 16 - at) (drop at image) → part ≡ contentOf image b
+  pub content-in : (at : ℕ) (part : List ℕ) → t ≡ true → at ≡ 16 * b .0 → part ≡ take 16 (take (at + 16 - at) (drop at image)) → part ≡ contentOf image b
   unfolding contentOf
   content-in at part e s p =
       let n : at + 16 - at ≡ 16 = omega arith in
-      rw (← asked, e) (p ∙ rw (n, s))
+      rw (← asked, e) (p ∙ rw (n, s) (take-take 16 16 (drop (16 * b .0) image) (omega arith)))
 
   pub content-none : t ≡ false → replicate 16 0 ≡ contentOf image b
   unfolding contentOf

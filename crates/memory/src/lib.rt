@@ -1,8 +1,8 @@
 // The blocks of a lent image: read one byte or all sixteen, store sixteen. Nothing above this crate computes an offset.
 ghost use mathlib.Core.Path.{_≡_};
 ghost use Prim.Native.Nat.{_+_, _*_, _≤_, _<_};
-ghost use lib.ListN.{length, take, drop};
-ghost use Rattle.memory.specs.Memory.{contentOf, byteOf, storeOf};
+ghost use lib.ListN.{length, take};
+ghost use Rattle.memory.specs.Memory.{sixteenOf, contentOf, byteOf, storeOf};
 use layout::Block;
 
 // The place of a block's first byte.
@@ -13,18 +13,18 @@ fn start_of(b: Block) -> usize
     16 * n as usize
 }
 
-// The sixteen bytes that a part of the image holds, as one copy.
-fn copied(part: &[u8]) -> [u8; 16]
-    requires { ⌜ length (now part) ≡ 16 ⌝ }
-    ensures { λ r. ⌜ r ≡ now (part .entry) ⌝ }
+// The first sixteen bytes, as one copy.
+fn copied(bytes: &[u8]) -> [u8; 16]
+    requires { ⌜ 16 ≤ length (now bytes) ⌝ }
+    ensures { λ r. ⌜ r ≡ take 16 (now (bytes .entry)) ⌝ }
 {
-    let mut bytes = [0u8; 16];
+    let mut copy = [0u8; 16];
     let mut i = 0;
     while i < 16 {
-        bytes[i] = part[i];
+        copy[i] = bytes[i];
         i += 1;
     }
-    bytes
+    copy
 }
 
 // The block writer: it sees the block's own part of the image and no other byte.
@@ -37,6 +37,16 @@ fn overwrite(part: &mut [u8], bytes: [u8; 16])
         part[i] = bytes[i];
         i += 1;
     }
+}
+
+// The first sixteen of some bytes; zeros where there are fewer.
+pub fn sixteen(bytes: &[u8]) -> [u8; 16]
+    ensures { λ r. ⌜ r ≡ sixteenOf (now (bytes .entry)) ⌝ }
+{
+    if 16 <= bytes.len() {
+        return copied(bytes);
+    }
+    [0u8; 16]
 }
 
 // Byte i of a block; 0 past the block's end, and where the image has no such block.

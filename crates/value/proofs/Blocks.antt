@@ -100,3 +100,21 @@ bits-small z a = omega arith
 -- the value of a block that decodes has 32 bits
 pub decode-small : (block : List ℕ) (v a : ℕ) → decodeOf block ≡ Value v a → v < 4294967296
 decode-small block v a e = let d = decoded block v a e in rw (ap bitsIn (d .0) ∙ d .1) at (bits-small (signed v) a)
+
+-- what an answer of `decode` says, in the words of the code that asked
+module _ (block : List ℕ) (r : Decoded) (asked : r ≡ decodeOf block) where
+  pub read-none : r ≡ NoValue → agreeing block ≡ false
+  unfolding decodeOf
+  read-none e = go (agreeing block) refl
+    where
+      go : (t : Bool) → agreeing block ≡ t → agreeing block ≡ false
+      go false q = q
+      go true q = let p : NoValue ≡ Value (bitsIn block) (addressIn block) = sym e ∙ rw q at asked in cc
+
+  pub read-value : (v a : ℕ) → r ≡ Value v a → (agreeing block ≡ true) × (v ≡ bitsIn block) × (a ≡ addressIn block)
+  unfolding decodeOf
+  read-value v a e = go (agreeing block) refl
+    where
+      go : (t : Bool) → agreeing block ≡ t → (agreeing block ≡ true) × (v ≡ bitsIn block) × (a ≡ addressIn block)
+      go true q = let p : Value v a ≡ Value (bitsIn block) (addressIn block) = sym e ∙ rw q at asked in (q, cc, cc)
+      go false q = let p : Value v a ≡ NoValue = sym e ∙ rw q at asked in (cc, cc, cc)

@@ -13,11 +13,11 @@ use Rattle.value.specs.Block.{encodeOf, agreeing, same}
 use Rattle.value.proofs.Blocks.{bits-signed, four-back, same-refl, same-eq}
 
 -- a list of n, element by element
-abbrev elements : ℕ → (ℕ → ℕ) → List ℕ
+abbrev pub elements : ℕ → (ℕ → ℕ) → List ℕ
 elements zero f = []
 elements (suc n) f = f 0 ∷ elements n (λ (i : ℕ). f (suc i))
 
-listed : (n : ℕ) (xs : List ℕ) → length xs ≡ n → xs ≡ elements n (λ (i : ℕ). getD xs i 0)
+pub listed : (n : ℕ) (xs : List ℕ) → length xs ≡ n → xs ≡ elements n (λ (i : ℕ). getD xs i 0)
 listed zero [] e = refl
 listed zero (x ∷ xs) e = absurd (omega arith)
 listed (suc n) [] e = absurd (omega arith)

@@ -1,0 +1,3 @@
+pub mod Trailer
+pub mod Effects
+pub mod Step

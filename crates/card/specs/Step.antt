@@ -1,0 +1,27 @@
+-- One frame and one field reset, whole.
+use mathlib.Core.List.{List}
+use Prim.Native.Nat.{ℕ}
+use Rattle.session.specs.Session.{freshOf}
+use Rattle.session.specs.declared.Session.{Session}
+use Rattle.judge.specs.Judge.{judgeOf}
+use Rattle.judge.specs.declared.Act.{Act}
+use Rattle.card.specs.Trailer.{zeros}
+use Rattle.card.specs.Effects.{numberOf, signOf, replyOf, sessionOf, imageOf}
+use Rattle.card.specs.declared.Sign.the-variants.{Nothing}
+use Rattle.card.specs.declared.Answer.{Answer}
+
+-- the answer to an act
+unfoldable pub answered : List ℕ → Session → Act → Answer
+answered image s act =
+    record { number = numberOf act; sign = signOf act; reply = replyOf image act; session = sessionOf s act }
+
+-- the answer to a frame, and the image after it
+unfoldable pub answerOf : List ℕ → Session → List ℕ → Answer
+answerOf image s frame = answered image s (judgeOf image s frame)
+
+unfoldable pub imageAfter : List ℕ → Session → List ℕ → List ℕ
+imageAfter image s frame = imageOf image (s .auth) (judgeOf image s frame) frame
+
+-- the answer to a field reset: always accepted, silent, the session fresh
+abbrev pub resetOf : Answer
+resetOf = record { number = 0; sign = Nothing; reply = zeros; session = freshOf }

@@ -1,0 +1,58 @@
+// The card: one frame, one answer.
+ghost use mathlib.Core.Path.{_≡_};
+ghost use Rattle.card.specs.Step.{answerOf, imageAfter, resetOf};
+
+mod effects;
+mod outcome;
+mod trailer;
+
+use session::Session;
+
+// What goes on the air.
+pub enum Sign {
+    Ack,
+    Nak,
+    Data,
+    Nothing,
+}
+
+// The number (0 is accepted), the sign, the sixteen reply bytes and the session afterwards.
+pub struct Answer {
+    pub number: u8,
+    pub sign: Sign,
+    pub reply: [u8; 16],
+    pub session: Session,
+}
+
+// Any image, any session, any frame: the answer, and the image as it is afterwards.
+pub fn step(image: &mut [u8], s: Session, frame: &[u8]) -> Answer
+    ensures { λ r. ⌜ r ≡ answerOf (now (image .entry)) s (now (frame .entry)) ⌝ }
+    ensures { λ _. ⌜ now (image .exit) ≡ imageAfter (now (image .entry)) s (now (frame .entry)) ⌝ }
+{
+    let auth = s.auth;
+    let act = judge::judge(&image[..], s, frame);
+    let reply = effects::reply_of(&image[..], act);
+    effects::change(image, auth, act, frame);
+    let number = outcome::number_of(act);
+    let sign = outcome::sign_of(act);
+    let session = outcome::session_of(s, act);
+    Answer {
+        number,
+        sign,
+        reply,
+        session,
+    }
+}
+
+// The reader's field went away and came back: always accepted, and no image is needed.
+pub fn field_reset() -> Answer
+    ensures { λ r. ⌜ r ≡ resetOf ⌝ }
+{
+    let session = session::fresh();
+    Answer {
+        number: 0,
+        sign: Sign::Nothing,
+        reply: [0u8; 16],
+        session,
+    }
+}

@@ -1,0 +1,51 @@
+-- What a frame asks for. A frame that asks for nothing known is what 1 refuses.
+use mathlib.Core.Bool.{Bool, cond}
+use mathlib.Core.List.{List}
+use Prim.Native.Nat.{ℕ}
+use lib.Dec.{eqb}
+use lib.ListN.{getD, length}
+use Rattle.layout.specs.declared.Block.{Block}
+use Rattle.access.specs.declared.rights.Letter.the-variants.{KeyA, KeyB}
+use Rattle.session.specs.declared.Kind.the-variants.{Increment, Decrement, Restore}
+use Rattle.session.specs.declared.Stage.{Stage}
+use Rattle.session.specs.declared.Stage.the-variants.{Idle, WriteWaits, ValueWaits}
+use Rattle.frame.specs.declared.Deed.{Deed}
+use Rattle.frame.specs.declared.Deed.the-variants.{Read, Write, Store, Begin, Apply, Transfer}
+use Rattle.frame.specs.declared.Command.{Command}
+use Rattle.frame.specs.declared.Command.the-variants.{Unknown, Authenticate, Memory, Halt}
+
+abbrev pub blockAt : ℕ → Block
+blockAt n = record { 0 = n }
+
+-- byte i of a frame; 0 past its end
+unfoldable pub byteOf : List ℕ → ℕ → ℕ
+byteOf frame i = getD frame i 0
+
+-- frames of eight bytes: 60h or 61h, block, six key bytes
+unfoldable pub eightOf : ℕ → ℕ → Command
+eightOf code block =
+    cond (eqb code 0x60) (Authenticate KeyA (blockAt block)) (cond (eqb code 0x61) (Authenticate KeyB (blockAt block)) Unknown)
+
+-- frames of two bytes: a code and a block; Halt is 50h 00h
+unfoldable pub twoOf : ℕ → ℕ → Command
+twoOf code block =
+    cond (eqb code 0x30) (Memory Read (blockAt block))
+    (cond (eqb code 0xA0) (Memory Write (blockAt block))
+    (cond (eqb code 0xC1) (Memory (Begin Increment) (blockAt block))
+    (cond (eqb code 0xC0) (Memory (Begin Decrement) (blockAt block))
+    (cond (eqb code 0xC2) (Memory (Begin Restore) (blockAt block))
+    (cond (eqb code 0xB0) (Memory Transfer (blockAt block))
+    (cond (eqb code 0x50) (cond (eqb block 0) Halt Unknown)
+    Unknown))))))
+
+-- a first frame
+unfoldable pub firstOf : List ℕ → Command
+firstOf frame =
+    cond (eqb (length frame) 8) (eightOf (byteOf frame 0) (byteOf frame 1))
+    (cond (eqb (length frame) 2) (twoOf (byteOf frame 0) (byteOf frame 1)) Unknown)
+
+-- while a second frame is awaited every frame is taken as that one: only its length is judged
+unfoldable pub commandOf : Stage → List ℕ → Command
+commandOf Idle frame = firstOf frame
+commandOf (WriteWaits b) frame = cond (eqb (length frame) 16) (Memory Store b) Unknown
+commandOf (ValueWaits k b) frame = cond (eqb (length frame) 4) (Memory (Apply k) b) Unknown

@@ -1,0 +1,106 @@
+// What a frame asks for.
+ghost use mathlib.Core.Path.{_≡_};
+ghost use Rattle.frame.specs.Command.{byteOf, eightOf, twoOf, firstOf, commandOf};
+use access::Letter;
+use layout::Block;
+use session::Kind;
+use session::Stage;
+
+// What is asked of a block. Write and Store are the first and the second frame of a Write, Begin and Apply those of a value operation.
+pub enum Deed {
+    Read,
+    Write,
+    Store,
+    Begin(Kind),
+    Apply(Kind),
+    Transfer,
+}
+
+pub enum Command {
+    Unknown,
+    Authenticate(Letter, Block),
+    Memory(Deed, Block),
+    Halt,
+}
+
+// Byte i of a frame; 0 past its end.
+pub fn byte(frame: &[u8], i: usize) -> u8
+    ensures { λ r. ⌜ r ≡ byteOf (now (frame .entry)) i ⌝ }
+{
+    if i < frame.len() {
+        return frame[i];
+    }
+    0
+}
+
+fn eight(code: u8, block: u8) -> Command
+    ensures { λ r. ⌜ r ≡ eightOf code block ⌝ }
+{
+    let b = Block(block);
+    match code {
+        0x60 => Command::Authenticate(Letter::KeyA, b),
+        0x61 => Command::Authenticate(Letter::KeyB, b),
+        _ => Command::Unknown,
+    }
+}
+
+fn two(code: u8, block: u8) -> Command
+    ensures { λ r. ⌜ r ≡ twoOf code block ⌝ }
+{
+    let b = Block(block);
+    match code {
+        0x30 => Command::Memory(Deed::Read, b),
+        0xA0 => Command::Memory(Deed::Write, b),
+        0xC1 => Command::Memory(Deed::Begin(Kind::Increment), b),
+        0xC0 => Command::Memory(Deed::Begin(Kind::Decrement), b),
+        0xC2 => Command::Memory(Deed::Begin(Kind::Restore), b),
+        0xB0 => Command::Memory(Deed::Transfer, b),
+        0x50 => {
+            if block == 0 {
+                Command::Halt
+            } else {
+                Command::Unknown
+            }
+        }
+        _ => Command::Unknown,
+    }
+}
+
+fn first_command(frame: &[u8]) -> Command
+    ensures { λ r. ⌜ r ≡ firstOf (now (frame .entry)) ⌝ }
+{
+    let n = frame.len();
+    let code = byte(frame, 0);
+    let block = byte(frame, 1);
+    if n == 8 {
+        return eight(code, block);
+    }
+    if n == 2 {
+        return two(code, block);
+    }
+    Command::Unknown
+}
+
+// A second frame is taken by the stage, whatever it begins with.
+pub fn command_of(stage: Stage, frame: &[u8]) -> Command
+    ensures { λ r. ⌜ r ≡ commandOf stage (now (frame .entry)) ⌝ }
+{
+    let n = frame.len();
+    match stage {
+        Stage::Idle => first_command(frame),
+        Stage::WriteWaits(b) => {
+            if n == 16 {
+                Command::Memory(Deed::Store, b)
+            } else {
+                Command::Unknown
+            }
+        }
+        Stage::ValueWaits(k, b) => {
+            if n == 4 {
+                Command::Memory(Deed::Apply(k), b)
+            } else {
+                Command::Unknown
+            }
+        }
+    }
+}
