@@ -4,17 +4,17 @@ use mathlib.Core.Bool.{Bool, _&&_, cond}
 use mathlib.Core.List.{List}
 use lib.Dec.{eqb}
 use lib.ListN.{getD}
-use Rattle.layout.specs.Layout.{numberOf}
+use Rattle.layout.specs.Layout.{groupNumber}
 use Rattle.layout.specs.declared.Group.{Group}
 use Rattle.access.specs.declared.bits.AccessBytes.{AccessBytes}
 use Rattle.access.specs.declared.bits.Bits.{Bits}
 use Rattle.access.specs.declared.bits.Bits.the-variants.{Blocked, Are}
 
--- the access bytes of a trailer are its bytes 6, 7 and 8
+-- where a trailer keeps its access bytes
 unfoldable pub accessBytesOf : List ℕ → AccessBytes
 accessBytesOf trailer = record { 0 = getD trailer 6 0; 1 = getD trailer 7 0; 2 = getD trailer 8 0 }
 
--- byte 6 is inverted C2, inverted C1; byte 7 is C1, inverted C3; byte 8 is C3, C2: high nibble, low nibble
+-- the six nibbles, in the order of the bytes and the high one first
 abbrev pub invertedC2 : AccessBytes → ℕ
 invertedC2 x = x .0 / 16
 
@@ -41,22 +41,23 @@ agree n inverted = eqb (n + inverted) 15
 unfoldable pub wellFormed : AccessBytes → Bool
 wellFormed x = agree (C1 x) (invertedC1 x) && agree (C2 x) (invertedC2 x) && agree (C3 x) (invertedC3 x)
 
--- bit g of a nibble is for group g
+-- a group has the bit of its number in each nibble
 unfoldable pub bitOf : ℕ → Group → ℕ
-bitOf nibble g = nibble / 2 ^ numberOf g % 2
+bitOf nibble g = nibble / 2 ^ groupNumber g % 2
 
 -- C1 C2 C3 of a group, read as a binary number
 unfoldable pub groupBits : AccessBytes → Group → ℕ
 groupBits x g = 4 * bitOf (C1 x) g + 2 * bitOf (C2 x) g + bitOf (C3 x) g
 
--- if a nibble and its inverse disagree the sector is blocked
+-- blocked, or the bits
 unfoldable pub bitsOf : AccessBytes → Group → Bits
 bitsOf x g = cond (wellFormed x) (Are (groupBits x g)) Blocked
 
--- the access bytes of four groups' bits: bit g of each nibble from group g
+-- a nibble from one bit of each of four groups
 unfoldable pub nibbleOf : (ℕ → ℕ) → ℕ → ℕ → ℕ → ℕ → ℕ
 nibbleOf bit g₀ g₁ g₂ g₃ = bit g₀ + 2 * bit g₁ + 4 * bit g₂ + 8 * bit g₃
 
+-- the access bytes of four groups' bits
 unfoldable pub encodeBits : ℕ → ℕ → ℕ → ℕ → AccessBytes
 encodeBits g₀ g₁ g₂ g₃ =
     let c1 = nibbleOf (λ n. n / 4 % 2) g₀ g₁ g₂ g₃ in

@@ -95,15 +95,15 @@ unfoldable pub writableOf : Letter → ℕ → Parts
 writableOf l n =
     record { a = allowsOf (trailerRow n .0) l; bits = allowsOf (trailerRow n .1) l; b = allowsOf (trailerRow n .2) l }
 
--- key B can be read from a trailer with the bits n
 abbrev pub isYes : Readable → Bool
 isYes No = false
 isYes Yes = true
 
+-- key B can be read from a trailer with the bits n
 unfoldable pub readableOf : ℕ → Bool
 readableOf n = isYes (trailerRow n .3)
 
--- a session under key B may do nothing while its trailer's bits n make key B readable
+-- no memory command is allowed under key B while the trailer's bits n let key B be read
 unfoldable pub muteOf : Letter → ℕ → Bool
 muteOf KeyA n = false
 muteOf KeyB n = readableOf n

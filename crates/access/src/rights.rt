@@ -121,17 +121,17 @@ pub fn may(l: Letter, o: Operation, bits: u8) -> bool
 }
 
 // The parts of a trailer with these bits that this key may write.
-pub fn writable(l: Letter, trailer: u8) -> Parts
-    ensures { λ r. ⌜ r ≡ writableOf l trailer ⌝ }
+pub fn writable(l: Letter, bits: u8) -> Parts
+    ensures { λ r. ⌜ r ≡ writableOf l bits ⌝ }
 {
-    let row = trailer_row(trailer);
+    let row = trailer_row(bits);
     let for_a = row.0;
     let for_bits = row.1;
     let for_b = row.2;
     let a = allows(for_a, l);
-    let bits = allows(for_bits, l);
+    let middle = allows(for_bits, l);
     let b = allows(for_b, l);
-    Parts { a, bits, b }
+    Parts { a, bits: middle, b }
 }
 
 fn is_yes(x: Readable) -> bool
@@ -152,7 +152,7 @@ pub fn is_readable(bits: u8) -> bool
     is_yes(readable)
 }
 
-// Does a session under this key count for nothing, its trailer having these bits?
+// Is every memory command barred under this key, the trailer having these bits?
 pub fn is_mute(l: Letter, bits: u8) -> bool
     ensures { λ r. ⌜ r ≡ muteOf l bits ⌝ }
 {

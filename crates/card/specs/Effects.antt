@@ -1,5 +1,5 @@
 -- What an act gives back, and what it leaves behind. Refusals are cases like any other.
-use mathlib.Core.Bool.{Bool, true, false, cond, _||_}
+use mathlib.Core.Bool.{cond, _||_}
 use mathlib.Core.List.{List}
 use Prim.Native.Nat.{ℕ}
 use lib.Dec.{eqb}
@@ -77,7 +77,7 @@ writtenOf image auth b frame =
     cond (isTrailer b) (mixedOf (writableBy auth (ownBits (contentOf image b))) (contentOf image b) (sixteenOf frame))
     (sixteenOf frame)
 
--- the image afterwards: a Write and a Transfer change their block, nothing else changes anything
+-- the image afterwards: a Write's second frame and a Transfer store into their block, nothing else stores
 unfoldable pub imageOf : List ℕ → Auth → Act → List ℕ → List ℕ
 imageOf image auth (Refused n) frame = image
 imageOf image auth (Authenticated t l) frame = image

@@ -1,5 +1,5 @@
 -- A trailer in its parts: key A in bytes 0 to 5, the access bits and the user byte in 6 to 9, key B in 10 to 15.
-use mathlib.Core.Bool.{Bool, true, false, cond}
+use mathlib.Core.Bool.{Bool, false, cond}
 use mathlib.Core.List.{List, _++_}
 use Prim.Native.Nat.{ℕ}
 use lib.ListN.{take, drop, replicate}
@@ -29,11 +29,10 @@ unfoldable pub readableIn : Bits → Bool
 readableIn Blocked = false
 readableIn (Are n) = readableOf n
 
--- as it is read: key A is zeros, and so is key B unless it can be read
+-- as a Read shows it: no key A ever, and key B only where it can be read
 unfoldable pub shownTrailer : List ℕ → List ℕ
 shownTrailer trailer = joinOf zeros trailer (cond (readableIn (ownBits trailer)) trailer zeros)
 
--- the parts that a session may write
 abbrev pub noPart : Parts
 noPart = record { a = false; bits = false; b = false }
 
@@ -41,6 +40,7 @@ unfoldable pub writableIn : Letter → Bits → Parts
 writableIn l Blocked = noPart
 writableIn l (Are n) = writableOf l n
 
+-- the parts that a session may write
 unfoldable pub writableBy : Auth → Bits → Parts
 writableBy Nobody own = noPart
 writableBy (As s l) own = writableIn l own

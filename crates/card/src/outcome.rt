@@ -53,11 +53,7 @@ pub(crate) fn session_of(s: Session, act: Act) -> Session
     let auth = s.auth;
     let register = s.register;
     match act {
-        Act::Refused(_) => Session {
-            auth: Auth::Nobody,
-            stage: Stage::Idle,
-            register: Register::Empty,
-        },
+        Act::Refused(_) => session::FRESH,
         Act::Authenticated(t, l) => Session {
             auth: Auth::As(t, l),
             stage: Stage::Idle,
@@ -80,10 +76,6 @@ pub(crate) fn session_of(s: Session, act: Act) -> Session
             register: Register::Full(v, a),
         },
         Act::Moved(_, _, _) => s,
-        Act::Halted => Session {
-            auth: Auth::Nobody,
-            stage: Stage::Idle,
-            register: Register::Empty,
-        },
+        Act::Halted => session::FRESH,
     }
 }

@@ -1,5 +1,11 @@
 pub mod Starred
+pub mod Exact
 pub mod OneLayout
 pub mod OneMemory
 pub mod OneAccess
 pub mod OneValue
+pub mod OneSession
+pub mod OneFrame
+pub mod OneJudge
+pub mod OneCard
+pub mod OneScript

@@ -2,11 +2,11 @@
 -- Assumes nothing.
 use mathlib.Core.List.{List}
 use Prim.Native.Nat.{ℕ}
-use Rattle.layout.specs.declared.Group.{Group}
+use Rattle.access.specs.declared.rights.Letter.{Letter}
 use Rattle.access.specs.declared.bits.AccessBytes.{AccessBytes}
 use Rattle.access.specs.declared.rights.Keys.{Keys}
+use Rattle.layout.specs.declared.Group.{Group}
 use Rattle.access.specs.declared.rights.Operation.{Operation}
-use Rattle.access.specs.declared.rights.Letter.{Letter}
 use Rattle.access.proofs.access_bytes_of.Reads as access-bytes-of-contract
 use Rattle.access.proofs.bits_of.Reads as bits-of-contract
 use Rattle.access.proofs.data_row.Reads as data-row-contract
@@ -16,7 +16,8 @@ use Rattle.access.proofs.may.Reads as may-contract
 use Rattle.access.proofs.writable.Reads as writable-contract
 use Rattle.access.proofs.is_readable.Reads as is-readable-contract
 use Rattle.access.proofs.is_mute.Reads as is-mute-contract
-use Rattle.demands.specs.One.{OneResult, exact}
+use Rattle.demands.specs.One.{OneResult}
+use Rattle.demands.proofs.Exact.{exact}
 
 pub access-bytes-of : (trailer : List ℕ) → OneResult (λ r. access-bytes-of-contract.Post tt (trailer, tt) r (trailer, tt))
 access-bytes-of trailer = exact
@@ -36,8 +37,8 @@ allows k l = exact
 pub may : (l : Letter) (o : Operation) (bits : ℕ) → OneResult (λ r. may-contract.Post tt (l, (o, (bits, tt))) r (l, (o, (bits, tt))))
 may l o bits = exact
 
-pub writable : (l : Letter) (trailer : ℕ) → OneResult (λ r. writable-contract.Post tt (l, (trailer, tt)) r (l, (trailer, tt)))
-writable l trailer = exact
+pub writable : (l : Letter) (bits : ℕ) → OneResult (λ r. writable-contract.Post tt (l, (bits, tt)) r (l, (bits, tt)))
+writable l bits = exact
 
 pub is-readable : (bits : ℕ) → OneResult (λ r. is-readable-contract.Post tt (bits, tt) r (bits, tt))
 is-readable bits = exact

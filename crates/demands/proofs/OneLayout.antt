@@ -1,9 +1,9 @@
 -- One result for each public function of `layout`, on the contract that its source states.
 -- Assumes nothing.
 use Prim.Native.Nat.{ℕ}
+use Rattle.layout.specs.declared.Block.{Block}
 use Rattle.layout.specs.declared.Sector.{Sector}
 use Rattle.layout.specs.declared.Group.{Group}
-use Rattle.layout.specs.declared.Block.{Block}
 use Rattle.layout.proofs.sectors_of.Reads as sectors-of-contract
 use Rattle.layout.proofs.blocks_of.Reads as blocks-of-contract
 use Rattle.layout.proofs.has_sector.Reads as has-sector-contract
@@ -12,8 +12,9 @@ use Rattle.layout.proofs.sector_of.Reads as sector-of-contract
 use Rattle.layout.proofs.trailer_of.Reads as trailer-of-contract
 use Rattle.layout.proofs.is_trailer.Reads as is-trailer-contract
 use Rattle.layout.proofs.group_of.Reads as group-of-contract
-use Rattle.layout.proofs.number_of.Reads as number-of-contract
-use Rattle.demands.specs.One.{OneResult, exact}
+use Rattle.layout.proofs.group_number.Reads as group-number-contract
+use Rattle.demands.specs.One.{OneResult}
+use Rattle.demands.proofs.Exact.{exact}
 
 pub sectors-of : (bytes : ℕ) → OneResult (λ r. sectors-of-contract.Post tt (bytes, tt) r (bytes, tt))
 sectors-of bytes = exact
@@ -39,5 +40,5 @@ is-trailer b = exact
 pub group-of : (b : Block) → OneResult (λ r. group-of-contract.Post tt (b, tt) r (b, tt))
 group-of b = exact
 
-pub number-of : (g : Group) → OneResult (λ r. number-of-contract.Post tt (g, tt) r (g, tt))
-number-of g = exact
+pub group-number : (g : Group) → OneResult (λ r. group-number-contract.Post tt (g, tt) r (g, tt))
+group-number g = exact

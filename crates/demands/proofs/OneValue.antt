@@ -6,7 +6,8 @@ use Rattle.value.proofs.encode.Reads as encode-contract
 use Rattle.value.proofs.decode.Reads as decode-contract
 use Rattle.value.proofs.plus.Reads as plus-contract
 use Rattle.value.proofs.minus.Reads as minus-contract
-use Rattle.demands.specs.One.{OneResult, exact}
+use Rattle.demands.specs.One.{OneResult}
+use Rattle.demands.proofs.Exact.{exact}
 
 pub encode : (value : ℕ) (address : ℕ) → OneResult (λ r. encode-contract.Post tt (value, (address, tt)) r (value, (address, tt)))
 encode value address = exact

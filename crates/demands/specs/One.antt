@@ -1,10 +1,6 @@
 -- One result: what it means that a promise names a single result.
-use mathlib.Core.Path.{_≡_, sym, _∙_}
+use mathlib.Core.Path.{_≡_}
 
 -- any two results that meet a promise are equal
 abbrev pub OneResult : {R : Type 0} → (R → Type 0) → Type 0
 OneResult {R} Meets = (r r′ : R) → Meets r → Meets r′ → r ≡ r′
-
--- a promise that names the result itself has one
-pub exact : {R : Type 0} {x : R} → OneResult (λ (r : R). r ≡ x)
-exact r r′ p q = p ∙ sym q

@@ -4,7 +4,7 @@ use mathlib.Core.Bool.{Bool, true, false}
 use mathlib.Core.List.{List, [], _∷_, map}
 use Prim.Native.Nat.{ℕ, _+_}
 use lib.IntN.{ℤ, pos, negsuc}
-use Rattle.layout.specs.Layout.{sectorOf, isTrailer, groupOf, numberOf}
+use Rattle.layout.specs.Layout.{sectorOf, isTrailer, groupOf, groupNumber}
 use Rattle.layout.specs.declared.Block.{Block}
 use Rattle.layout.specs.declared.Group.{Group}
 use Rattle.layout.specs.declared.Group.the-variants.{First, Second, Third, Trailer}
@@ -13,11 +13,13 @@ use Rattle.access.specs.declared.bits.Bits.{Bits}
 use Rattle.access.specs.declared.bits.Bits.the-variants.{Blocked, Are}
 use Rattle.value.specs.Whole.{signed, bits}
 use Rattle.value.specs.Block.{encodeOf, decodeOf}
-use Rattle.value.specs.Sum.{plusOf, minusOf}
 use Rattle.value.specs.declared.block.Decoded.{Decoded}
 use Rattle.value.specs.declared.block.Decoded.the-variants.{Value, NoValue}
 use Rattle.value.specs.declared.sum.Total.{Total}
 use Rattle.value.specs.declared.sum.Total.the-variants.{Fits, Outside}
+use Rattle.session.specs.declared.Kind.the-variants.{Increment, Decrement}
+use Rattle.judge.specs.Judge.{totalFor, loadOf}
+use Rattle.card.specs.Effects.{numberOf}
 
 -- what an example asks
 pub data Question : Type 0 where
@@ -37,7 +39,7 @@ pub data Question : Type 0 where
   plus : ℤ → ℤ → Question
   minus : ℤ → ℤ → Question
 
--- what it is told
+-- what it is owed
 pub data Answer : Type 0 where
   number : ℕ → Answer
   yes-no : Bool → Answer
@@ -61,20 +63,21 @@ abbrev pub decodeAnswer : Decoded → Answer
 decodeAnswer (Value v a) = value-at (signed v) a
 decodeAnswer NoValue = no-value-block
 
+-- a sum that leaves the range is refused with the card's own number for it
 abbrev pub sumAnswer : Total → Answer
 sumAnswer (Fits v) = sum (signed v)
-sumAnswer Outside = refused 10
+sumAnswer Outside = refused (numberOf (loadOf Outside 0))
 
 -- the answer of the definitions; block 128 is the first of a large sector
 unfoldable pub answer : Question → Answer
 answer (sector-of b) = number (sectorOf (blockNumber b) .0)
 answer (trailer? b) = yes-no (isTrailer (blockNumber b))
-answer (large-group o) = number (numberOf (groupOf (blockNumber (128 + o))))
+answer (large-group o) = number (groupNumber (groupOf (blockNumber (128 + o))))
 answer (access x y z g) = accessAnswer (bitsOf (record { 0 = x; 1 = y; 2 = z }) g)
 answer (encode v a) = bytes (encodeOf v a)
 answer (decode b) = decodeAnswer (decodeOf b)
-answer (plus v x) = sumAnswer (plusOf (bits v) (bits x))
-answer (minus v x) = sumAnswer (minusOf (bits v) (bits x))
+answer (plus v x) = sumAnswer (totalFor Increment (bits v) (bits x))
+answer (minus v x) = sumAnswer (totalFor Decrement (bits v) (bits x))
 
 pub record Row : Type 0 where
   pub asks : Question
@@ -109,6 +112,9 @@ starred =
     ∷ (access 0xFF 0x07 0x80 Third ⇒ three-bits 0b000)
     -- 5: 00 00 00
     ∷ (access 0x00 0x00 0x00 Trailer ⇒ blocked)
+    ∷ (access 0x00 0x00 0x00 First ⇒ blocked)
+    ∷ (access 0x00 0x00 0x00 Second ⇒ blocked)
+    ∷ (access 0x00 0x00 0x00 Third ⇒ blocked)
     -- 6: 1,234,567 at 17
     ∷ (encode (pos 1234567) 17
     ⇒ bytes (0x87 ∷ 0xD6 ∷ 0x12 ∷ 0x00 ∷ 0x78 ∷ 0x29 ∷ 0xED ∷ 0xFF ∷ 0x87 ∷ 0xD6 ∷ 0x12 ∷ 0x00 ∷ 0x11 ∷ 0xEE ∷ 0x11 ∷ 0xEE ∷ []))

@@ -19,7 +19,7 @@ pub(crate) fn agrees(text: &[u8]) -> bool {
     let s = layout::sector_of(block);
     let t = layout::trailer_of(s);
     let in_sector = (s.0 == sector) & starts(field(text, 2), sector) & (t.0 == field(text, 3));
-    let in_group = layout::number_of(layout::group_of(block)) == group;
+    let in_group = layout::group_number(layout::group_of(block)) == group;
     let is_last = layout::is_trailer(block) == (group == 3);
     in_sector & in_group & is_last
 }

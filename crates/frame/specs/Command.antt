@@ -1,5 +1,5 @@
 -- What a frame asks for. A frame that asks for nothing known is what 1 refuses.
-use mathlib.Core.Bool.{Bool, cond}
+use mathlib.Core.Bool.{cond}
 use mathlib.Core.List.{List}
 use Prim.Native.Nat.{ℕ}
 use lib.Dec.{eqb}
@@ -18,15 +18,15 @@ abbrev pub blockAt : ℕ → Block
 blockAt n = record { 0 = n }
 
 -- byte i of a frame; 0 past its end
-unfoldable pub byteOf : List ℕ → ℕ → ℕ
-byteOf frame i = getD frame i 0
+unfoldable pub byteIn : List ℕ → ℕ → ℕ
+byteIn frame i = getD frame i 0
 
--- frames of eight bytes: 60h or 61h, block, six key bytes
+-- a frame of eight bytes asks for an authentication: code, block, key
 unfoldable pub eightOf : ℕ → ℕ → Command
 eightOf code block =
     cond (eqb code 0x60) (Authenticate KeyA (blockAt block)) (cond (eqb code 0x61) (Authenticate KeyB (blockAt block)) Unknown)
 
--- frames of two bytes: a code and a block; Halt is 50h 00h
+-- a frame of two bytes: code and block. Write and Begin are first frames; their second ones are Store and Apply
 unfoldable pub twoOf : ℕ → ℕ → Command
 twoOf code block =
     cond (eqb code 0x30) (Memory Read (blockAt block))
@@ -41,10 +41,10 @@ twoOf code block =
 -- a first frame
 unfoldable pub firstOf : List ℕ → Command
 firstOf frame =
-    cond (eqb (length frame) 8) (eightOf (byteOf frame 0) (byteOf frame 1))
-    (cond (eqb (length frame) 2) (twoOf (byteOf frame 0) (byteOf frame 1)) Unknown)
+    cond (eqb (length frame) 8) (eightOf (byteIn frame 0) (byteIn frame 1))
+    (cond (eqb (length frame) 2) (twoOf (byteIn frame 0) (byteIn frame 1)) Unknown)
 
--- while a second frame is awaited every frame is taken as that one: only its length is judged
+-- the stage says what a frame is; of a second frame nothing but the length is looked at
 unfoldable pub commandOf : Stage → List ℕ → Command
 commandOf Idle frame = firstOf frame
 commandOf (WriteWaits b) frame = cond (eqb (length frame) 16) (Memory Store b) Unknown

@@ -1,6 +1,6 @@
 // What a frame asks for.
 ghost use mathlib.Core.Path.{_≡_};
-ghost use Rattle.frame.specs.Command.{byteOf, eightOf, twoOf, firstOf, commandOf};
+ghost use Rattle.frame.specs.Command.{byteIn, eightOf, twoOf, firstOf, commandOf};
 use access::Letter;
 use layout::Block;
 use session::Kind;
@@ -25,7 +25,7 @@ pub enum Command {
 
 // Byte i of a frame; 0 past its end.
 pub fn byte(frame: &[u8], i: usize) -> u8
-    ensures { λ r. ⌜ r ≡ byteOf (now (frame .entry)) i ⌝ }
+    ensures { λ r. ⌜ r ≡ byteIn (now (frame .entry)) i ⌝ }
 {
     if i < frame.len() {
         return frame[i];

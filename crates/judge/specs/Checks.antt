@@ -1,4 +1,4 @@
--- The checks, by their numbers, and which of them each command has to pass.
+-- The checks by their numbers, and which of them each command has to pass. 1 is in `frame`, 9 is an empty register, 10 comes with the result.
 use Prim.Native.Nat.{ℕ, _+_}
 use mathlib.Core.Bool.{Bool, true, false, not, _&&_, _||_, cond}
 use mathlib.Core.List.{List, [], _∷_, _++_}
@@ -23,7 +23,7 @@ use Rattle.session.specs.declared.Auth.the-variants.{Nobody, As}
 use Rattle.session.specs.declared.Kind.{Kind}
 use Rattle.session.specs.declared.Kind.the-variants.{Increment, Decrement, Restore}
 use Rattle.session.specs.declared.Session.{Session}
-use Rattle.frame.specs.Command.{byteOf}
+use Rattle.frame.specs.Command.{byteIn}
 use Rattle.frame.specs.declared.Deed.{Deed}
 use Rattle.frame.specs.declared.Deed.the-variants.{Read, Write, Store, Begin, Apply, Transfer}
 use Rattle.judge.specs.First.{Check, check}
@@ -35,51 +35,53 @@ guardOf image b = contentOf image (trailerOf (sectorOf b))
 abbrev pub accessOf : List ℕ → Block → AccessBytes
 accessOf image b = accessBytesOf (guardOf image b)
 
--- 11: the image is not 1,024 or 4,096 bytes
+-- 11: no card has such an image
 unfoldable pub noCard : List ℕ → Bool
 noCard image = eqb (sectorsOf (length image)) 0
 
--- 12: the session names a sector that the image lacks, or has a stage or a full register with no authenticated sector
+-- 12: the session is not coherent
 unfoldable pub incoherent : List ℕ → Session → Bool
 incoherent image s = not (coherentOf (length image) s)
 
--- 2: no such block
+-- 2: the image lacks the block
 unfoldable pub noBlock : List ℕ → Block → Bool
 noBlock image b = not (hasBlock (length image) b)
 
--- 3: the block's sector is not the authenticated one, or none is
+-- 3: the session is not authenticated for the block's sector
 unfoldable pub otherSector : Auth → Block → Bool
 otherSector auth b = not (inSector auth (sectorOf b))
 
--- 5: the sector is blocked
+-- 5: malformed access bytes block the sector
 unfoldable pub isBlocked : AccessBytes → Bool
 isBlocked x = not (wellFormed x)
 
--- 4: the six key bytes of the frame, from byte 2 on, are not those of the trailer: key A from byte 0 on, key B from byte 10 on
+-- the frame's key, its bytes 2 to 7, is the one that begins at this byte of the trailer
 abbrev pub keyAt : List ℕ → ℕ → List ℕ → Bool
 keyAt trailer at frame =
-    eqb (getD trailer at 0) (byteOf frame 2)
-    && eqb (getD trailer (at + 1) 0) (byteOf frame 3)
-    && eqb (getD trailer (at + 2) 0) (byteOf frame 4)
-    && eqb (getD trailer (at + 3) 0) (byteOf frame 5)
-    && eqb (getD trailer (at + 4) 0) (byteOf frame 6)
-    && eqb (getD trailer (at + 5) 0) (byteOf frame 7)
+    eqb (getD trailer at 0) (byteIn frame 2)
+    && eqb (getD trailer (at + 1) 0) (byteIn frame 3)
+    && eqb (getD trailer (at + 2) 0) (byteIn frame 4)
+    && eqb (getD trailer (at + 3) 0) (byteIn frame 5)
+    && eqb (getD trailer (at + 4) 0) (byteIn frame 6)
+    && eqb (getD trailer (at + 5) 0) (byteIn frame 7)
 
+-- key A begins at byte 0, key B at byte 10
 unfoldable pub isKey : List ℕ → Letter → List ℕ → Bool
 isKey trailer KeyA frame = keyAt trailer 0 frame
 isKey trailer KeyB frame = keyAt trailer 10 frame
 
+-- 4: the frame brings another key
 unfoldable pub wrongKey : List ℕ → Letter → Block → List ℕ → Bool
 wrongKey image l b frame = not (isKey (guardOf image b) l frame)
 
--- 6: Write, value operation or Transfer on block 0; value operation or Transfer on a trailer (z: block 0, t: a trailer)
+-- 6: block 0 (z) is only read, and a trailer (t) is not for values
 unfoldable pub isForbidden : Operation → Bool → Bool → Bool
 isForbidden column.Read z t = false
 isForbidden column.Write z t = z
 isForbidden column.Increment z t = z || t
 isForbidden column.Decrement z t = z || t
 
--- any key reads a trailer, and writes it if it may write some part
+-- a trailer is read freely, and written where some part may be; a value operation never gets here, by 6
 unfoldable pub trailerRight : Operation → Parts → Bool
 trailerRight column.Read p = true
 trailerRight column.Write p = p .a || p .bits || p .b
@@ -94,20 +96,21 @@ unfoldable pub hasRight : Auth → Operation → Bool → ℕ → ℕ → Bool
 hasRight Nobody o trailer n m = false
 hasRight (As s l) o trailer n m = rightOf l o trailer n m
 
--- 7: the key has not the right
+-- 7: the rights do not allow it
 unfoldable pub noRight : AccessBytes → Auth → Operation → Block → Bool
 noRight x auth o b = not (hasRight auth o (isTrailer b) (groupBits x (groupOf b)) (groupBits x Trailer))
 
--- 8: the source is not a value block
+-- 8: what stands in the block is no value
 unfoldable pub noValue : List ℕ → Block → Bool
 noValue image b = not (agreeing (contentOf image b))
 
--- the column of the rights that a deed needs: a second frame that of its first, Transfer and Restore that of Decrement
+-- Restore has no column of its own
 unfoldable pub kindColumn : Kind → Operation
 kindColumn Increment = column.Increment
 kindColumn Decrement = column.Decrement
 kindColumn Restore = column.Decrement
 
+-- the column of the rights that a deed needs; Transfer goes by Decrement's
 unfoldable pub columnOf : Deed → Operation
 columnOf Read = column.Read
 columnOf Write = column.Write
@@ -126,7 +129,7 @@ memoryChecks image auth o b =
     ∷ check 7 (noRight (accessOf image b) auth o b)
     ∷ []
 
--- what a deed has to pass; a second frame runs the checks of its first again
+-- what a deed has to pass; Store runs the checks of Write and Apply those of Begin
 unfoldable pub checksOf : List ℕ → Session → Deed → Block → List Check
 checksOf image s Read b = memoryChecks image (s .auth) (columnOf Read) b
 checksOf image s Write b = memoryChecks image (s .auth) (columnOf Write) b
@@ -140,6 +143,6 @@ unfoldable pub authenticateChecks : List ℕ → Letter → Block → List ℕ �
 authenticateChecks image l b frame =
     check 2 (noBlock image b) ∷ check 5 (isBlocked (accessOf image b)) ∷ check 4 (wrongKey image l b frame) ∷ []
 
--- what every frame has to pass
+-- 11 and 12, before the frame is looked at
 unfoldable pub frameChecks : List ℕ → Session → List Check
 frameChecks image s = check 11 (noCard image) ∷ check 12 (incoherent image s) ∷ []

@@ -16,7 +16,7 @@ unfoldable pub first : List Check → Verdict
 first [] = Pass
 first (check n applies ∷ cs) = cond applies (Refuse n) (first cs)
 
--- refused by it; where none applies, the act
+-- the act that a verdict leaves
 unfoldable pub ruled : Verdict → Act → Act
 ruled Pass act = act
 ruled (Refuse n) act = Refused n

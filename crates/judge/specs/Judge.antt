@@ -1,7 +1,6 @@
 -- The judgement of a frame: the refusal, or what the frame does.
 use Prim.Native.Nat.{ℕ}
-use mathlib.Core.Bool.{Bool, true, false}
-use mathlib.Core.List.{List, [], _∷_}
+use mathlib.Core.List.{List}
 use Rattle.layout.specs.Layout.{sectorOf}
 use Rattle.layout.specs.declared.Block.{Block}
 use Rattle.memory.specs.Memory.{contentOf}
@@ -25,16 +24,21 @@ use Rattle.judge.specs.Checks.{checksOf, authenticateChecks, frameChecks
 use Rattle.judge.specs.declared.Act.{Act}
 use Rattle.judge.specs.declared.Act.the-variants.{Refused, Authenticated, Shown, Waits, Stored, Loaded, Moved, Halted}
 
--- value plus operand, value minus operand, or the value
+-- what a value operation makes of a value; Restore leaves it
 unfoldable pub totalFor : Kind → ℕ → ℕ → Total
 totalFor Increment value operand = plusOf value operand
 totalFor Decrement value operand = minusOf value operand
 totalFor Restore value operand = Fits value
 
--- after the checks of a second value frame: 10 where the result is out of range, else it is loaded with the source's address byte
+-- 10 where the result is out of range, else it is loaded, with the source's address byte
 unfoldable pub loadOf : Total → ℕ → Act
 loadOf (Fits v) address = Loaded v address
 loadOf Outside address = Refused 10
+
+-- what a second value frame does after its checks
+unfoldable pub appliedOf : List ℕ → Kind → Block → List ℕ → Act
+appliedOf image k b frame =
+    loadOf (totalFor k (bitsIn (contentOf image b)) (bitsIn frame)) (addressIn (contentOf image b))
 
 -- after the checks of a Transfer: the register goes into the block (9 has refused an empty one)
 unfoldable pub moveOf : Register → Block → Act
@@ -47,8 +51,7 @@ doneOf image s Read b frame = Shown b
 doneOf image s Write b frame = Waits (WriteWaits b)
 doneOf image s Store b frame = Stored b
 doneOf image s (Begin k) b frame = Waits (ValueWaits k b)
-doneOf image s (Apply k) b frame =
-    loadOf (totalFor k (bitsIn (contentOf image b)) (bitsIn frame)) (addressIn (contentOf image b))
+doneOf image s (Apply k) b frame = appliedOf image k b frame
 doneOf image s Transfer b frame = moveOf (s .register) b
 
 -- what a command does; 1 refuses an unknown one

@@ -1,4 +1,4 @@
-// The checks that several commands share.
+// The checks, as code.
 ghost use mathlib.Core.Path.{_≡_};
 ghost use mathlib.Core.List.{[], _∷_};
 ghost use Rattle.layout.specs.Layout.{isTrailer};
@@ -15,7 +15,7 @@ use layout::Group;
 use session::Auth;
 
 // What a list of checks comes to.
-pub(crate) enum Verdict {
+pub enum Verdict {
     Pass,
     Refuse(u8),
 }

@@ -1,4 +1,4 @@
-// What each command does once its checks have passed.
+// Each command: its checks, and then what it does.
 ghost use mathlib.Core.Path.{_≡_};
 ghost use mathlib.Core.List.{[], _∷_};
 ghost use Prim.Native.Nat.{_<_};
@@ -6,7 +6,7 @@ ghost use Rattle.layout.specs.Layout.{sectorOf};
 ghost use Rattle.value.specs.Block.{bitsIn};
 ghost use Rattle.judge.specs.First.{check, first, ruled};
 ghost use Rattle.judge.specs.Checks.{authenticateChecks, checksOf, noValue, kindColumn, columnOf};
-ghost use Rattle.judge.specs.Judge.{totalFor, loadOf, doneOf};
+ghost use Rattle.judge.specs.Judge.{totalFor, loadOf, appliedOf, moveOf, doneOf};
 ghost use Rattle.session.specs.Session.{isEmpty};
 use crate::Act;
 use crate::checks;
@@ -64,9 +64,9 @@ fn column_of(d: Deed) -> Operation
     }
 }
 
-// A value operation's first frame, checks 2 to 7 passed: check 8, and then its second frame is awaited.
-fn begin(image: &[u8], s: Session, k: Kind, b: Block, frame: &[u8]) -> Act
-    ensures { λ r. ⌜ r ≡ ruled (first (check 8 (noValue (now (image .entry)) b) ∷ [])) (doneOf (now (image .entry)) s (Deed.Begin k) b (now (frame .entry))) ⌝ }
+// A value operation's first frame after the shared checks: 8, and then its second frame is awaited.
+fn begin(image: &[u8], k: Kind, b: Block) -> Act
+    ensures { λ r. ⌜ r ≡ ruled (first (check 8 (noValue (now (image .entry)) b) ∷ [])) (Act.Waits (Stage.ValueWaits k b)) ⌝ }
 {
     match value::decode(memory::content(image, b)) {
         Decoded::NoValue => Act::Refused(8),
@@ -110,9 +110,9 @@ fn operand_of(frame: &[u8]) -> u32
     f0 + 256 * f1 + 65536 * f2 + 16777216 * f3
 }
 
-// A value operation's second frame, checks 2 to 7 passed: check 8, check 10, and then the result is loaded.
-fn apply(image: &[u8], s: Session, k: Kind, b: Block, frame: &[u8]) -> Act
-    ensures { λ r. ⌜ r ≡ ruled (first (check 8 (noValue (now (image .entry)) b) ∷ [])) (doneOf (now (image .entry)) s (Deed.Apply k) b (now (frame .entry))) ⌝ }
+// A value operation's second frame after the shared checks: 8, 10, and then the result is loaded.
+fn apply(image: &[u8], k: Kind, b: Block, frame: &[u8]) -> Act
+    ensures { λ r. ⌜ r ≡ ruled (first (check 8 (noValue (now (image .entry)) b) ∷ [])) (appliedOf (now (image .entry)) k b (now (frame .entry))) ⌝ }
 {
     let operand = operand_of(frame);
     match value::decode(memory::content(image, b)) {
@@ -121,11 +121,10 @@ fn apply(image: &[u8], s: Session, k: Kind, b: Block, frame: &[u8]) -> Act
     }
 }
 
-// A Transfer, checks 2 to 7 passed: check 9, and then the register goes into the block.
-fn transfer(image: &[u8], s: Session, b: Block, frame: &[u8]) -> Act
-    ensures { λ r. ⌜ r ≡ ruled (first (check 9 (isEmpty (s .register)) ∷ [])) (doneOf (now (image .entry)) s Deed.Transfer b (now (frame .entry))) ⌝ }
+// A Transfer after the shared checks: 9, and then the register goes into the block.
+fn transfer(register: Register, b: Block) -> Act
+    ensures { λ r. ⌜ r ≡ ruled (first (check 9 (isEmpty register) ∷ [])) (moveOf register b) ⌝ }
 {
-    let register = s.register;
     match register {
         Register::Empty => Act::Refused(9),
         Register::Full(v, a) => Act::Moved(b, v, a),
@@ -137,6 +136,7 @@ pub(crate) fn perform(image: &[u8], s: Session, d: Deed, b: Block, frame: &[u8])
     ensures { λ r. ⌜ r ≡ ruled (first (checksOf (now (image .entry)) s d b)) (doneOf (now (image .entry)) s d b (now (frame .entry))) ⌝ }
 {
     let auth = s.auth;
+    let register = s.register;
     let v = checks::refusal(image, auth, column_of(d), b);
     if let Verdict::Refuse(n) = v {
         return Act::Refused(n);
@@ -145,8 +145,8 @@ pub(crate) fn perform(image: &[u8], s: Session, d: Deed, b: Block, frame: &[u8])
         Deed::Read => Act::Shown(b),
         Deed::Write => Act::Waits(Stage::WriteWaits(b)),
         Deed::Store => Act::Stored(b),
-        Deed::Begin(k) => begin(image, s, k, b, frame),
-        Deed::Apply(k) => apply(image, s, k, b, frame),
-        Deed::Transfer => transfer(image, s, b, frame),
+        Deed::Begin(k) => begin(image, k, b),
+        Deed::Apply(k) => apply(image, k, b, frame),
+        Deed::Transfer => transfer(register, b),
     }
 }

@@ -6,6 +6,7 @@ mod checks;
 mod deeds;
 
 use access::Letter;
+pub use checks::Verdict;
 use frame::Command;
 use layout::Block;
 use layout::Sector;

@@ -1,8 +1,8 @@
 // Where blocks stand: the image sizes, sectors, trailers and access groups.
-// Block addresses and sector numbers both count from zero; each is a sort of its own, and only this crate turns one into the other.
+// A block address and a sector number are different types, and nothing but this crate makes one from the other.
 ghost use mathlib.Core.Path.{_≡_};
 ghost use Prim.Native.Nat.{_<_};
-ghost use Rattle.layout.specs.Layout.{sectorsOf, blocksOf, hasSector, hasBlock, sectorOf, trailerOf, isTrailer, groupAt, groupOf, numberOf};
+ghost use Rattle.layout.specs.Layout.{sectorsOf, blocksOf, hasSector, hasBlock, sectorOf, trailerOf, isTrailer, groupAt, groupOf, groupNumber};
 
 // A block address.
 pub struct Block(pub u8);
@@ -119,8 +119,8 @@ pub fn group_of(b: Block) -> Group
 }
 
 // A group's number, 0 to 3.
-pub fn number_of(g: Group) -> u8
-    ensures { λ r. ⌜ r ≡ numberOf g ⌝ }
+pub fn group_number(g: Group) -> u8
+    ensures { λ r. ⌜ r ≡ groupNumber g ⌝ }
 {
     match g {
         Group::First => 0,

@@ -1,6 +1,7 @@
 // The blocks of a lent image: read one byte or all sixteen, store sixteen. Nothing above this crate computes an offset.
+// A second Write frame brings its sixteen bytes as a block has them, so they are taken here too.
 ghost use mathlib.Core.Path.{_≡_};
-ghost use Prim.Native.Nat.{_+_, _*_, _≤_, _<_};
+ghost use Prim.Native.Nat.{_*_, _≤_};
 ghost use lib.ListN.{length, take};
 ghost use Rattle.memory.specs.Memory.{sixteenOf, contentOf, byteOf, storeOf};
 use layout::Block;

@@ -26,12 +26,12 @@ abbrev pub isEmpty : Register → Bool
 isEmpty Empty = true
 isEmpty (Full v a) = false
 
--- with an authenticated sector, the image has it; with none, there is neither a stage nor a full register
+-- the authenticated sector is one of the image's; without one, the rest of the session has to be quiet
 abbrev pub fits : Auth → ℕ → Bool → Bool
 fits Nobody bytes quiet = quiet
 fits (As t l) bytes quiet = hasSector bytes t
 
--- what 12 judges, for an image of so many bytes
+-- with an image of so many bytes; 12 refuses where this is false
 unfoldable pub coherentOf : ℕ → Session → Bool
 coherentOf bytes s = fits (s .auth) bytes (isIdle (s .stage) && isEmpty (s .register))
 

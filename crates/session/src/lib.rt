@@ -5,7 +5,7 @@ use access::Letter;
 use layout::Block;
 use layout::Sector;
 
-// The authenticated sector and the letter of the key, or none.
+// Who is authenticated: for which sector, and under which key.
 pub enum Auth {
     Nobody,
     As(Sector, Letter),
@@ -18,7 +18,7 @@ pub enum Kind {
     Restore,
 }
 
-// The second frame that is awaited: none, a Write's with its block, or a value operation's with its kind and block.
+// Which second frame is awaited, and for which block.
 pub enum Stage {
     Idle,
     WriteWaits(Block),
@@ -37,14 +37,16 @@ pub struct Session {
     pub register: Register,
 }
 
+pub const FRESH: Session = Session {
+    auth: Auth::Nobody,
+    stage: Stage::Idle,
+    register: Register::Empty,
+};
+
 pub fn fresh() -> Session
     ensures { λ r. ⌜ r ≡ freshOf ⌝ }
 {
-    Session {
-        auth: Auth::Nobody,
-        stage: Stage::Idle,
-        register: Register::Empty,
-    }
+    FRESH
 }
 
 fn is_idle(stage: Stage) -> bool
@@ -66,7 +68,7 @@ fn is_empty(register: Register) -> bool
     }
 }
 
-// Can an image of so many bytes have given this session?
+// Does this session pass 12, with an image of so many bytes?
 pub fn is_coherent(bytes: usize, s: Session) -> bool
     ensures { λ r. ⌜ r ≡ coherentOf bytes s ⌝ }
 {

@@ -17,11 +17,11 @@ fourOf n = (n % 256) ∷ (n / 256 % 256) ∷ (n / 65536 % 256) ∷ (n / 16777216
 abbrev pub inverted : List ℕ → List ℕ
 inverted = map (λ b. 255 - b)
 
--- the address byte plain, inverted, plain, inverted
+-- an address byte four times, every other time inverted
 abbrev pub addressOf : ℕ → List ℕ
 addressOf a = a ∷ (255 - a) ∷ a ∷ (255 - a) ∷ []
 
--- the value in bytes 0 to 3, inverted in 4 to 7, plain in 8 to 11; then the address byte four times
+-- the value block: the value three times, the second time inverted, then the address byte
 unfoldable pub encodeOf : ℤ → ℕ → List ℕ
 encodeOf value address =
     fourOf (bits value) ++ (inverted (fourOf (bits value)) ++ (fourOf (bits value) ++ addressOf address))

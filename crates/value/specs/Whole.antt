@@ -6,7 +6,7 @@ use lib.Signed.{leZ}
 use mir.Val.{toZ, ofZ}
 use mir.Syntax.{w32}
 
--- the whole number that 32 bits stand for, and the 32 bits of a whole number
+-- the whole number that 32 bits stand for, and the bits of a whole number in range
 abbrev pub signed : ℕ → ℤ
 signed n = toZ w32 n
 

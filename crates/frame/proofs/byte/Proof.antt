@@ -1,7 +1,7 @@
 -- Within the frame its byte, past it 0.
 use mathlib.Core.Path.{refl, sym}
 use lib.ListN.{List·getD-eq-default}
-use Rattle.frame.specs.Command.{byteOf}
+use Rattle.frame.specs.Command.{byteIn}
 use borrow.Author.Needs.{needs}
 use Rattle.frame.proofs.byte.Statement.{statement}
 use Rattle.frame.proofs.byte.Tie as tie
@@ -10,11 +10,11 @@ shared-slice-read-result : tie.Need-shared-slice-read-result
 shared-slice-read-result c = search needs
 
 returns : tie.Need-returns
-unfolding byteOf
+unfolding byteIn
 returns c = refl
 
 returns-2 : tie.Need-returns-2
-unfolding byteOf
+unfolding byteIn
 returns-2 c = sym (List·getD-eq-default (c .before .args .frame .now) 0 (c .if1 .left))
 
 pub byte-spec : {M : Type 1} → statement M

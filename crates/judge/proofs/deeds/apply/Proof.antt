@@ -3,7 +3,7 @@ use mathlib.Core.Path.{_∙_}
 use Rattle.value.proofs.Blocks.{read-none, read-value}
 use Rattle.judge.specs.First.{first, ruled}
 use Rattle.judge.specs.Checks.{noValue}
-use Rattle.judge.specs.Judge.{doneOf}
+use Rattle.judge.specs.Judge.{appliedOf}
 use borrow.Author.Needs.{needs}
 use Rattle.judge.proofs.deeds.apply.Statement.{statement}
 use Rattle.judge.proofs.deeds.apply.Tie as tie
@@ -30,11 +30,11 @@ load-requires : tie.Need-load-requires
 load-requires c κs = search needs
 
 returns : tie.Need-returns
-unfolding first ruled noValue doneOf
+unfolding first ruled noValue appliedOf
 returns c = rw (← (c .before .before .before .content .ensures), read-none _ _ (c .before .before .decode .ensures) (c .enum-told .given .1))
 
 returns-2 : tie.Need-returns-2
-unfolding first ruled noValue doneOf
+unfolding first ruled noValue appliedOf
 returns-2 c = let r = read-value _ _ (c .before .before .before .before .before .decode .ensures) _ _ (c .before .before .before .v .given .1) in
     c .load .ensures ∙ rw (c .before .total .ensures, c .before .before .before .before .before .before .before .operand-of .ensures, ← (c .before .before .before .before .before .before .content .ensures), r .0, ← (r .1), ← (r .2))
 

@@ -2,7 +2,6 @@
 use Rattle.value.proofs.Blocks.{read-none, read-value}
 use Rattle.judge.specs.First.{first, ruled}
 use Rattle.judge.specs.Checks.{noValue}
-use Rattle.judge.specs.Judge.{doneOf}
 use borrow.Author.Needs.{needs}
 use Rattle.judge.proofs.deeds.begin.Statement.{statement}
 use Rattle.judge.proofs.deeds.begin.Tie as tie
@@ -20,11 +19,11 @@ enum-told-2 : tie.Need-enum-told-2
 enum-told-2 c = search needs
 
 returns : tie.Need-returns
-unfolding first ruled noValue doneOf
+unfolding first ruled noValue
 returns c = rw (← (c .before .before .before .content .ensures), read-none _ _ (c .before .before .decode .ensures) (c .enum-told .given .1))
 
 returns-2 : tie.Need-returns-2
-unfolding first ruled noValue doneOf
+unfolding first ruled noValue
 returns-2 c = rw (← (c .before .before .before .content .ensures), read-value _ _ (c .before .before .decode .ensures) _ _ (c .enum-told2 .given .1) .0)
 
 pub begin-spec : {M : Type 1} → statement M

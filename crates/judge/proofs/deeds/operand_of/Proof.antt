@@ -1,5 +1,5 @@
 -- The four bytes make a word as the definition does.
-use Rattle.frame.specs.Command.{byteOf}
+use Rattle.frame.specs.Command.{byteIn}
 use borrow.Author.Needs.{needs}
 use Rattle.judge.proofs.deeds.operand_of.Statement.{statement}
 use Rattle.judge.proofs.deeds.operand_of.Tie as tie
@@ -47,7 +47,7 @@ add-result-3 : tie.Need-add-result-3
 add-result-3 c = search needs
 
 returns : tie.Need-returns
-unfolding byteOf
+unfolding byteIn
 returns c = rw (c .before .before .before .before .before .before .wide .ensures .0, c .before .before .before .before .before .before .before .byte .ensures, c .before .before .before .before .wide2 .ensures .0, c .before .before .before .before .before .byte2 .ensures, c .before .before .wide3 .ensures .0, c .before .before .before .byte3 .ensures, c .wide4 .ensures .0, c .before .byte4 .ensures)
 
 pub operand-of-spec : {M : Type 1} → statement M

@@ -63,12 +63,15 @@ unfolding first ruled doneOf
 returns-4 c = passed _ _ _ _ _ _ (c .before .before .before .before .before .column-of .ensures) (c .before .before .before .before .refusal .ensures) Store _ (c .before .before .enum-told .given .1) (c .enum-told4 .given .1)
 
 returns-5 : tie.Need-returns-5
+unfolding doneOf
 returns-5 c = c .begin .ensures ∙ passed _ _ _ _ _ _ (c .before .before .before .before .before .before .before .column-of .ensures) (c .before .before .before .before .before .before .refusal .ensures) _ _ (c .before .before .before .before .enum-told .given .1) (c .before .before .d .given .1)
 
 returns-6 : tie.Need-returns-6
+unfolding doneOf
 returns-6 c = c .apply .ensures ∙ passed _ _ _ _ _ _ (c .before .before .before .before .before .before .before .column-of .ensures) (c .before .before .before .before .before .before .refusal .ensures) _ _ (c .before .before .before .before .enum-told .given .1) (c .before .before .d2 .given .1)
 
 returns-7 : tie.Need-returns-7
+unfolding doneOf
 returns-7 c = c .transfer .ensures ∙ passed _ _ _ _ _ _ (c .before .before .before .before .before .before .column-of .ensures) (c .before .before .before .before .before .refusal .ensures) Transfer _ (c .before .before .before .enum-told .given .1) (c .before .enum-told5 .given .1)
 
 pub perform-spec : {M : Type 1} → statement M

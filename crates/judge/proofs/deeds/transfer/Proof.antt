@@ -1,6 +1,6 @@
 -- `transfer` goes by the register.
 use Rattle.judge.specs.First.{first, ruled}
-use Rattle.judge.specs.Judge.{doneOf, moveOf}
+use Rattle.judge.specs.Judge.{moveOf}
 use borrow.Author.Needs.{needs}
 use Rattle.judge.proofs.deeds.transfer.Statement.{statement}
 use Rattle.judge.proofs.deeds.transfer.Tie as tie
@@ -12,11 +12,11 @@ enum-known-register : tie.Need-enum-known-register
 enum-known-register c = search needs
 
 returns : tie.Need-returns
-unfolding first ruled doneOf moveOf
+unfolding first ruled moveOf
 returns c = rw (c .enum-told .given .1)
 
 returns-2 : tie.Need-returns-2
-unfolding first ruled doneOf moveOf
+unfolding first ruled moveOf
 returns-2 c = rw (c .before .register .given .1)
 
 pub transfer-spec : {M : Type 1} → statement M

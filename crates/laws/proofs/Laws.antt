@@ -1,0 +1,246 @@
+-- What holds of every frame, for any image, session and frame.
+-- Assumes nothing.
+use mathlib.Core.Path.{_≡_, refl, sym, _∙_, ap}
+use mathlib.Core.Bool.{Bool, true, false, cond, _||_, false≢true}
+use mathlib.Core.List.{List, [], _∷_}
+use Prim.Native.Nat.{ℕ, _<_}
+use native.Mathlib.Omega.{arith}
+use lib.Dec.{eqb, ltb}
+use lib.ListN.{length}
+use borrow.Author.Tests.{eqb-true, eqb-false, eq-eqb, ltb-true}
+use Rattle.layout.specs.Layout.{sectorsOf, blocksIn, blocksOf, hasSector, hasBlock, sectorOf, trailerOf, isTrailer}
+use Rattle.layout.specs.declared.Block.{Block}
+use Rattle.layout.specs.declared.Sector.{Sector}
+use Rattle.layout.proofs.Laws.{trailer-in-sector, sector-exists, has-sector}
+use Rattle.memory.specs.Memory.{sixteenOf, contentOf, storeOf}
+use Rattle.memory.proofs.Laws.{store-length, store-back, store-other}
+use Rattle.access.specs.Bits.{accessBytesOf, wellFormed}
+use Rattle.access.specs.declared.rights.Operation.{Operation}
+use Rattle.value.specs.Whole.{signed}
+use Rattle.value.specs.Block.{encodeOf}
+use Rattle.value.proofs.Blocks.{encode-length}
+use Rattle.session.specs.Session.{freshOf, fits, coherentOf, inSector}
+use Rattle.session.specs.declared.Auth.{Auth}
+use Rattle.session.specs.declared.Auth.the-variants.{Nobody, As}
+use Rattle.session.specs.declared.Stage.{Stage}
+use Rattle.session.specs.declared.Stage.the-variants.{Idle, WriteWaits, ValueWaits}
+use Rattle.session.specs.declared.Session.{Session}
+use Rattle.frame.specs.Command.{blockAt}
+use Rattle.judge.specs.Checks.{accessOf, isForbidden}
+use Rattle.judge.specs.Judge.{judgeOf}
+use Rattle.judge.specs.declared.Act.{Act}
+use Rattle.judge.specs.declared.Act.the-variants.{Refused, Authenticated, Shown, Waits, Stored, Loaded, Moved, Halted}
+use Rattle.card.specs.Trailer.{zeros, shownTrailer}
+use Rattle.card.specs.Effects.{numberOf, sessionOf, replyOf, shownOf, writtenOf, imageOf}
+use Rattle.card.specs.Step.{answered, answerOf, imageAfter}
+use Rattle.laws.specs.Accepted.{Allowed, Accepted}
+use Rattle.laws.proofs.Sound.{sound}
+use Rattle.laws.proofs.Lengths.{sixteen-same, written-length}
+
+-- the act stores into the block: a Write's second frame or a Transfer
+abbrev pub Touches : Act → Block → Type 0
+Touches (Refused n) j = ⊥
+Touches (Authenticated t l) j = ⊥
+Touches (Shown b) j = ⊥
+Touches (Waits w) j = ⊥
+Touches (Stored b) j = b .0 ≡ j .0
+Touches (Loaded v a) j = ⊥
+Touches (Moved b v a) j = b .0 ≡ j .0
+Touches Halted j = ⊥
+
+abbrev sectorAt : ℕ → Sector
+sectorAt n = record { 0 = n }
+
+block-eq : (b c : Block) → b .0 ≡ c .0 → b ≡ c
+block-eq b c e = ap blockAt e
+
+or-left : (x y : Bool) → (x || y) ≡ false → x ≡ false
+or-left false y e = refl
+or-left true y e = e
+
+-- no image has more than forty sectors
+few-sectors : (bytes : ℕ) → sectorsOf bytes < 41
+unfolding sectorsOf
+few-sectors bytes = go (eqb bytes 1024) (eqb bytes 4096)
+  where
+    go : (t u : Bool) → cond t 16 (cond u 40 0) < 41
+    go true u = omega arith
+    go false true = omega arith
+    go false false = omega arith
+
+-- the trailer of a block's sector is in that sector
+trailer-sector : (bytes : ℕ) (b : Block) → hasBlock bytes b ≡ true → sectorOf (trailerOf (sectorOf b)) ≡ sectorOf b
+unfolding hasBlock blocksOf
+trailer-sector bytes b h =
+    let l : sectorOf b .0 < sectorsOf bytes = sector-exists (sectorsOf bytes) b (ltb-true (b .0) (blocksIn (sectorsOf bytes)) h) in
+    ap sectorAt (trailer-in-sector (sectorOf b) (omega (arith, few-sectors bytes)))
+
+-- a session whose authenticated sector is that of a block of the image is coherent
+in-own-sector : (bytes : ℕ) (b : Block) (auth : Auth) (quiet : Bool) → hasBlock bytes b ≡ true → inSector auth (sectorOf b) ≡ true → fits auth bytes quiet ≡ true
+unfolding inSector
+in-own-sector bytes b Nobody quiet h e = absurd (false≢true e)
+in-own-sector bytes b (As t l) quiet h e =
+    ap (λ (n : ℕ). hasSector bytes (sectorAt n)) (eqb-true (t .0) (sectorOf b .0) e) ∙ has-sector bytes b h
+
+-- a session has one authenticated sector
+one-sector : (auth : Auth) (t u : Sector) → inSector auth t ≡ true → inSector auth u ≡ true → t ≡ u
+unfolding inSector
+one-sector Nobody t u p q = absurd (false≢true p)
+one-sector (As c l) t u p q = ap sectorAt (sym (eqb-true (c .0) (t .0) p) ∙ eqb-true (c .0) (u .0) q)
+
+module _ (image : List ℕ) (s : Session) (frame : List ℕ) where
+  -- a refusal leaves the image, gives the fresh session and sixteen zeros
+  pub refusal-fresh : (answerOf image s frame .number ≡ 0 → ⊥)
+      → (imageAfter image s frame ≡ image) × (answerOf image s frame .session ≡ freshOf) × (answerOf image s frame .reply ≡ zeros)
+  unfolding answerOf answered imageAfter numberOf imageOf sessionOf replyOf
+  refusal-fresh = go (judgeOf image s frame)
+    where
+      go : (x : Act) → (numberOf x ≡ 0 → ⊥) → (imageOf image (s .auth) x frame ≡ image) × (sessionOf s x ≡ freshOf) × (replyOf image x ≡ zeros)
+      go (Refused n) h = (refl, refl, refl)
+      go (Authenticated t l) h = absurd (h refl)
+      go (Shown b) h = absurd (h refl)
+      go (Waits w) h = absurd (h refl)
+      go (Stored b) h = absurd (h refl)
+      go (Loaded v a) h = absurd (h refl)
+      go (Moved b v a) h = absurd (h refl)
+      go Halted h = absurd (h refl)
+
+  -- the image's length never changes
+  pub image-length : length (imageAfter image s frame) ≡ length image
+  unfolding imageAfter imageOf
+  image-length = go (judgeOf image s frame)
+    where
+      go : (x : Act) → length (imageOf image (s .auth) x frame) ≡ length image
+      go (Refused n) = refl
+      go (Authenticated t l) = refl
+      go (Shown b) = refl
+      go (Waits w) = refl
+      go (Stored b) = store-length image b (writtenOf image (s .auth) b frame) (written-length image (s .auth) b frame)
+      go (Loaded v a) = refl
+      go (Moved b v a) = store-length image b (encodeOf (signed v) a) (encode-length (signed v) a)
+      go Halted = refl
+
+  -- a block that the act does not touch is as it was
+  pub untouched : (j : Block) → (Touches (judgeOf image s frame) j → ⊥) → contentOf (imageAfter image s frame) j ≡ contentOf image j
+  unfolding imageAfter imageOf
+  untouched j = go (judgeOf image s frame)
+    where
+      go : (x : Act) → (Touches x j → ⊥) → contentOf (imageOf image (s .auth) x frame) j ≡ contentOf image j
+      go (Refused n) h = refl
+      go (Authenticated t l) h = refl
+      go (Shown b) h = refl
+      go (Waits w) h = refl
+      go (Stored b) h = store-other image b (writtenOf image (s .auth) b frame) (written-length image (s .auth) b frame) j h
+      go (Loaded v a) h = refl
+      go (Moved b v a) h = store-other image b (encodeOf (signed v) a) (encode-length (signed v) a) j h
+      go Halted h = refl
+
+  -- whoever stores passed the checks of a Write or of a Transfer
+  touched : (x : Act) → Accepted image s frame x → (j : Block) → Touches x j → (b : Block) × (b .0 ≡ j .0) × (wellFormed (accessOf image b) ≡ true) × (eqb (b .0) 0 ≡ false)
+  unfolding isForbidden
+  touched (Refused n) h j t = absurd t
+  touched (Authenticated u l) h j t = absurd t
+  touched (Shown b) h j t = absurd t
+  touched (Waits w) h j t = absurd t
+  touched (Stored b) h j t = (b, t, h .1 .opened, h .1 .lawful)
+  touched (Loaded v a) h j t = absurd t
+  touched (Moved b v a) h j t = (b, t, h .1 .opened, or-left (eqb (b .0) 0) (isTrailer b) (h .1 .lawful))
+  touched Halted h j t = absurd t
+
+  -- block 0 never changes
+  pub block-0 : contentOf (imageAfter image s frame) (blockAt 0) ≡ contentOf image (blockAt 0)
+  block-0 =
+      untouched (blockAt 0)
+      (λ t.
+      let p = touched (judgeOf image s frame) (sound image s frame) (blockAt 0) t in
+      let q : false ≡ true = sym (p .3) ∙ eq-eqb (p .0 .0) 0 (p .1) in
+      absurd (false≢true q))
+
+  -- a blocked sector stays blocked whatever frame comes
+  pub stays-blocked : (b : Block) → hasBlock (length image) b ≡ true → wellFormed (accessOf image b) ≡ false
+      → wellFormed (accessOf (imageAfter image s frame) b) ≡ false
+  stays-blocked b has e =
+      ap (λ (t : List ℕ). wellFormed (accessBytesOf t)) (untouched (trailerOf (sectorOf b)) clear) ∙ e
+    where
+      clear : Touches (judgeOf image s frame) (trailerOf (sectorOf b)) → ⊥
+      clear t =
+          let p = touched (judgeOf image s frame) (sound image s frame) (trailerOf (sectorOf b)) t in
+          let same : sectorOf (p .0) ≡ sectorOf b = ap sectorOf (block-eq (p .0) (trailerOf (sectorOf b)) (p .1)) ∙ trailer-sector (length image) b has in
+          let q : false ≡ true = sym e ∙ ap (λ (c : Sector). wellFormed (accessBytesOf (contentOf image (trailerOf c)))) (sym same) ∙ p .2 in
+          absurd (false≢true q)
+
+  -- an accepted Read of a data block returns the block; of a trailer, the block with its keys blanked by rule
+  pub read-data : (b : Block) → judgeOf image s frame ≡ Shown b → isTrailer b ≡ false → answerOf image s frame .reply ≡ contentOf image b
+  unfolding answerOf answered replyOf shownOf
+  read-data b e t = rw (e, t)
+
+  pub read-trailer : (b : Block) → judgeOf image s frame ≡ Shown b → isTrailer b ≡ true → answerOf image s frame .reply ≡ shownTrailer (contentOf image b)
+  unfolding answerOf answered replyOf shownOf
+  read-trailer b e t = rw (e, t)
+
+  -- an accepted data Write leaves the sixteen bytes of its frame in the block
+  pub write-stored : (b : Block) → judgeOf image s frame ≡ Stored b → isTrailer b ≡ false → contentOf (imageAfter image s frame) b ≡ frame
+  unfolding imageAfter imageOf writtenOf
+  write-stored b e t =
+      let h : Accepted image s frame (Stored b) = rw e at (sound image s frame) in
+      rw (e, t, sixteen-same frame (h .2)) (store-back image b frame (h .2) (h .1 .has))
+
+  -- the session after every frame is coherent
+  pub stays-coherent : coherentOf (length (imageAfter image s frame)) (answerOf image s frame .session) ≡ true
+  unfolding answerOf answered sessionOf coherentOf
+  stays-coherent = rw image-length (go (judgeOf image s frame) (sound image s frame))
+    where
+      held : (o : Operation) (b : Block) → Allowed image (s .auth) o b → (quiet : Bool) → fits (s .auth) (length image) quiet ≡ true
+      held o b h quiet = in-own-sector (length image) b (s .auth) quiet (h .has) (h .own)
+
+      go : (x : Act) → Accepted image s frame x → coherentOf (length image) (sessionOf s x) ≡ true
+      go (Refused n) h = refl
+      go (Authenticated t l) h = ap (hasSector (length image)) (h .1 .sector) ∙ has-sector (length image) (h .1 .block) (h .1 .has)
+      go (Shown b) h = held _ b (h .1) _
+      go (Waits Idle) h = absurd (h .1)
+      go (Waits (WriteWaits b)) h = held _ b (h .1) _
+      go (Waits (ValueWaits k b)) h = held _ b (h .1 .allowed) _
+      go (Stored b) h = held _ b (h .1) _
+      go (Loaded v a) h = held _ (h .source) (h .countable .allowed) _
+      go (Moved b v a) h = held _ b (h .1) _
+      go Halted h = refl
+
+-- what an accepted data Write stored, a permitted Read gives back
+pub write-read : (image : List ℕ) (s later : Session) (frame read : List ℕ) (b : Block) → judgeOf image s frame ≡ Stored b → isTrailer b ≡ false
+    → judgeOf (imageAfter image s frame) later read ≡ Shown b → answerOf (imageAfter image s frame) later read .reply ≡ frame
+write-read image s later frame read b e t r =
+    read-data (imageAfter image s frame) later read b r t ∙ write-stored image s frame b e t
+
+-- the block's sector is the one that an act is about
+abbrev pub Concerns : Act → Session → Block → Type 0
+Concerns (Refused n) s b = ⊥
+Concerns (Authenticated t l) s b = t ≡ sectorOf b
+Concerns (Shown c) s b = sectorOf c ≡ sectorOf b
+Concerns (Waits Idle) s b = ⊥
+Concerns (Waits (WriteWaits c)) s b = sectorOf c ≡ sectorOf b
+Concerns (Waits (ValueWaits k c)) s b = sectorOf c ≡ sectorOf b
+Concerns (Stored c) s b = sectorOf c ≡ sectorOf b
+Concerns (Loaded v a) s b = inSector (s .auth) (sectorOf b) ≡ true
+Concerns (Moved c v a) s b = sectorOf c ≡ sectorOf b
+Concerns Halted s b = ⊥
+
+-- every command on a blocked sector is refused
+pub blocked-refused : (image : List ℕ) (s : Session) (frame : List ℕ) (b : Block) → wellFormed (accessOf image b) ≡ false → Concerns (judgeOf image s frame) s b → ⊥
+blocked-refused image s frame b e = go (judgeOf image s frame) (sound image s frame)
+  where
+    no : (c : Block) → sectorOf c ≡ sectorOf b → wellFormed (accessOf image c) ≡ true → ⊥
+    no c q h =
+        let z : false ≡ true = sym e ∙ ap (λ (t : Sector). wellFormed (accessBytesOf (contentOf image (trailerOf t)))) (sym q) ∙ h in
+        false≢true z
+
+    go : (x : Act) → Accepted image s frame x → Concerns x s b → ⊥
+    go (Refused n) h q = q
+    go (Authenticated t l) h q = no (h .1 .block) (sym (h .1 .sector) ∙ q) (h .1 .opened)
+    go (Shown c) h q = no c q (h .1 .opened)
+    go (Waits Idle) h q = q
+    go (Waits (WriteWaits c)) h q = no c q (h .1 .opened)
+    go (Waits (ValueWaits k c)) h q = no c q (h .1 .allowed .opened)
+    go (Stored c) h q = no c q (h .1 .opened)
+    go (Loaded v a) h q = no (h .source) (one-sector (s .auth) (sectorOf (h .source)) (sectorOf b) (h .countable .allowed .own) q) (h .countable .allowed .opened)
+    go (Moved c v a) h q = no c q (h .1 .opened)
+    go Halted h q = q

@@ -1,0 +1,1 @@
+// No code: what holds of every frame, whatever the image, the session and the frame are.

@@ -1,0 +1,131 @@
+// The script format: an image and the events to play on it. It is judged as a whole before anything is played.
+ghost use mathlib.Core.Path.{_≡_};
+ghost use Prim.Native.Nat.{_<_, _≤_};
+ghost use lib.ListN.{length, getD};
+ghost use Rattle.script.specs.Script.{numberOf, countAt, imageSize, imageOf, eventCount, eventsStart, frameAt, nextAt, eventsFrom, readingOf};
+
+// A byte of the script; 0 past its end.
+fn byte_at(script: &[u8], at: usize) -> usize
+    ensures { λ r. ⌜ (r ≡ getD (now (script .entry)) at 0) × (r < 256) ⌝ }
+{
+    if at < script.len() {
+        return script[at] as usize;
+    }
+    0
+}
+
+fn count_at(script: &[u8], at: usize) -> usize
+    requires { ⌜ at < 100000 ⌝ }
+    ensures { λ r. ⌜ (r ≡ countAt (now (script .entry)) at) × (r < 65536) ⌝ }
+{
+    byte_at(script, at) + 256 * byte_at(script, at + 1)
+}
+
+// The bytes of the image, by their count.
+pub fn image_size(script: &[u8]) -> usize
+    ensures { λ r. ⌜ r ≡ imageSize (now (script .entry)) ⌝ }
+    ensures { λ r. ⌜ r < 65536 ⌝ }
+{
+    count_at(script, 0)
+}
+
+// The image part; nothing where its bytes are not all there.
+pub fn image_of(script: &[u8]) -> &[u8]
+    ensures { λ r. ⌜ now r ≡ imageOf (now (script .entry)) ⌝ }
+{
+    let size = image_size(script);
+    let end = 2 + size;
+    if end <= script.len() {
+        return &script[2..end];
+    }
+    &script[..0]
+}
+
+pub fn event_count(script: &[u8]) -> usize
+    ensures { λ r. ⌜ r ≡ eventCount (now (script .entry)) ⌝ }
+{
+    count_at(script, 2 + image_size(script))
+}
+
+// Where the first event stands.
+pub fn events_start(script: &[u8]) -> usize
+    ensures { λ r. ⌜ r ≡ eventsStart (now (script .entry)) ⌝ }
+{
+    4 + image_size(script)
+}
+
+// The bytes of the event whose count stands at a place; none where they are not all there.
+pub fn frame_at(script: &[u8], at: usize) -> &[u8]
+    ensures { λ r. ⌜ now r ≡ frameAt (now (script .entry)) at ⌝ }
+{
+    if script.len() <= at {
+        return &script[..0];
+    }
+    let start = at + 1;
+    let end = start + byte_at(script, at);
+    if script.len() < end {
+        return &script[..0];
+    }
+    &script[start..end]
+}
+
+// Where the event after that one stands.
+pub fn next_at(script: &[u8], at: usize) -> usize
+    ensures { λ r. ⌜ r ≡ nextAt (now (script .entry)) at ⌝ }
+{
+    if at < script.len() {
+        return at + 1 + byte_at(script, at);
+    }
+    at
+}
+
+// The refusal of the events from a place on; 0 where there is none.
+fn events_refusal(script: &[u8], count: usize, start: usize) -> u8
+    ensures { λ r. ⌜ r ≡ numberOf (eventsFrom (now (script .entry)) count start) ⌝ }
+{
+    let mut at = start;
+    let mut left = count;
+    while 0 < left {
+        if script.len() <= at {
+            return 20;
+        }
+        let n = byte_at(script, at);
+        if 18 < n {
+            return 23;
+        }
+        if script.len() < at + 1 + n {
+            return 20;
+        }
+        at = next_at(script, at);
+        left -= 1;
+    }
+    if at < script.len() {
+        return 24;
+    }
+    0
+}
+
+// The refusal that is met first in the script; 0 for a lawful one.
+pub fn refusal_of(script: &[u8]) -> u8
+    ensures { λ r. ⌜ r ≡ numberOf (readingOf (now (script .entry))) ⌝ }
+{
+    let len = script.len();
+    if len < 2 {
+        return 20;
+    }
+    let size = image_size(script);
+    if layout::sectors_of(size) == 0 {
+        return 21;
+    }
+    if len < 2 + size {
+        return 20;
+    }
+    if len < 4 + size {
+        return 20;
+    }
+    let count = event_count(script);
+    if 1000 < count {
+        return 22;
+    }
+    events_refusal(script, count, events_start(script))
+}
