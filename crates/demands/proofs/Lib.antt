@@ -9,3 +9,4 @@ pub mod OneFrame
 pub mod OneJudge
 pub mod OneCard
 pub mod OneScript
+pub mod OnePlay

@@ -1,0 +1,4 @@
+pub mod Put
+pub mod Going
+pub mod Changing
+pub mod Whole

@@ -1,0 +1,116 @@
+-- A lawful script as a whole, and its printout in three parts.
+-- Assumes nothing.
+use mathlib.Core.Path.{_≡_, refl, sym, _∙_, ap}
+use mathlib.Core.Bool.{Bool, true, false, cond, false≢true}
+use mathlib.Core.List.{List, [], _∷_, _++_}
+use Prim.Native.Nat.{ℕ, _+_, _*_, _<_, _≤_}
+use native.Mathlib.Omega.{arith}
+use lib.Dec.{eqb, ltb, leb}
+use lib.ListN.{length, take, drop, length-drop}
+use lib.Seq.{length-take-le}
+use borrow.Author.Tests.{ltb-false, eqb-true, eqb-false, le-leb}
+use Rattle.layout.specs.Layout.{sectorsOf, blocksIn, blocksOf}
+use Rattle.session.specs.Session.{freshOf}
+use Rattle.script.specs.Script.{Reading, lawful, refused, numberOf, imageSize, imageOf, eventCount, eventsStart, eventsFrom, readingOf}
+use Rattle.play.specs.Text.{putOf, Put}
+use Rattle.play.specs.Run.{answersOf, runImage, eventsIn}
+use Rattle.play.specs.Printout.{refusalLine, headerLine, eventLines, changedFrom, playedOf, printed, printoutOf}
+use Rattle.play.proofs.Put.{put-length, then}
+use Rattle.play.proofs.Going.{is-lawful}
+
+-- what is known of a script without a refusal
+pub record Lawful (script : List ℕ) : Type 0 where
+  pub known : eqb (sectorsOf (imageSize script)) 0 ≡ false
+  pub there : 2 + imageSize script ≤ length script
+  pub few : eventCount script ≤ 1000
+  pub rest : readingOf script ≡ eventsFrom script (eventCount script) (eventsStart script)
+
+pub parts : (script : List ℕ) → numberOf (readingOf script) ≡ 0 → Lawful script
+unfolding readingOf numberOf
+parts script h =
+    go (ltb (length script) 2) refl (eqb (sectorsOf (imageSize script)) 0) refl (ltb (length script) (2 + imageSize script)) refl
+    (ltb (length script) (4 + imageSize script)) refl (ltb 1000 (eventCount script)) refl
+  where
+    go : (t : Bool) → ltb (length script) 2 ≡ t → (u : Bool) → eqb (sectorsOf (imageSize script)) 0 ≡ u → (v : Bool) → ltb (length script) (2 + imageSize script) ≡ v
+        → (w : Bool) → ltb (length script) (4 + imageSize script) ≡ w → (x : Bool) → ltb 1000 (eventCount script) ≡ x → Lawful script
+    go true e u f v g w i x j = let q : _≡_ {A = ℕ} 20 0 = rw e at h in absurd (omega arith)
+    go false e true f v g w i x j = let q : _≡_ {A = ℕ} 21 0 = rw (e, f) at h in absurd (omega arith)
+    go false e false f true g w i x j = let q : _≡_ {A = ℕ} 20 0 = rw (e, f, g) at h in absurd (omega arith)
+    go false e false f false g true i x j = let q : _≡_ {A = ℕ} 20 0 = rw (e, f, g, i) at h in absurd (omega arith)
+    go false e false f false g false i true j = let q : _≡_ {A = ℕ} 22 0 = rw (e, f, g, i, j) at h in absurd (omega arith)
+    go false e false f false g false i false j =
+        record { known = f; there = ltb-false (length script) (2 + imageSize script) g; few = ltb-false 1000 (eventCount script) j; rest = rw (e, f, g, i, j) }
+
+-- a size that a card has
+pub size-fits : (size : ℕ) → eqb (sectorsOf size) 0 ≡ false → (size ≤ 4096) × (blocksOf size ≤ 256)
+unfolding sectorsOf blocksOf blocksIn
+size-fits size h = go (eqb size 1024) refl (eqb size 4096) refl
+  where
+    go : (t : Bool) → eqb size 1024 ≡ t → (u : Bool) → eqb size 4096 ≡ u → (size ≤ 4096) × (blocksOf size ≤ 256)
+    go true e u f = (omega (arith, eqb-true size 1024 e), rw e (omega arith))
+    go false e true f = (omega (arith, eqb-true size 4096 f), rw (e, f) (omega arith))
+    go false e false f = let q : true ≡ false = rw (e, f) at h in absurd (false≢true (sym q))
+
+module _ (script : List ℕ) (h : numberOf (readingOf script) ≡ 0) where
+  pub image-length : length (imageOf script) ≡ imageSize script
+  unfolding imageOf
+  image-length =
+      let r : 2 + imageSize script ≤ length script = parts script h .there in
+      rw (le-leb (2 + imageSize script) (length script) r)
+      (length-take-le (imageSize script) (drop 2 script) (simp length-drop (omega arith)))
+
+  pub events-lawful : numberOf (eventsFrom script (eventCount script) (eventsStart script)) ≡ 0
+  events-lawful = ap numberOf (sym (parts script h .rest)) ∙ h
+
+  printout : printoutOf script ≡ playedOf script (eventsIn (eventsFrom script (eventCount script) (eventsStart script)))
+  unfolding printoutOf printed
+  printout = ap (printed script) (parts script h .rest ∙ is-lawful script (eventCount script) (eventsStart script) events-lawful)
+
+  -- header, events and changed blocks, one after the other
+  pub assembled : (out o₁ o₂ o₃ first image image′ : List ℕ) (size count start blocks t₁ t₂ t₃ : ℕ) → first ≡ imageOf script → image ≡ first
+      → size ≡ imageSize script → count ≡ eventCount script → start ≡ eventsStart script → blocks ≡ blocksOf size
+      → Put out 0 (headerLine size count) o₁ t₁
+      → Put o₁ t₁ (eventLines 1 (answersOf image freshOf (eventsIn (eventsFrom script count start)))) o₂ t₂
+      → image′ ≡ runImage image freshOf (eventsIn (eventsFrom script count start))
+      → Put o₂ t₂ (changedFrom first image′ blocks 0) o₃ t₃ → Put out 0 (printoutOf script) o₃ t₃
+  unfolding playedOf
+  assembled out o₁ o₂ o₃ first image image′ size count start blocks t₁ t₂ t₃ ef ei es ec ea eb p₁ p₂ er p₃ =
+      rw (printout, ← ef, ← es, ← ec, ← ea) (then p₁ (then (rw ei at p₂) (rw (er, ei, eb) at p₃)))
+
+-- a refusal is printed as such
+pub refusal-printed : (script : List ℕ) (n : ℕ) → n ≡ numberOf (readingOf script) → (n ≡ 0 → ⊥) → refusalLine n ≡ printoutOf script
+unfolding printoutOf printed numberOf
+refusal-printed script n e h = go (readingOf script) e
+  where
+    go : (r : Reading) → n ≡ numberOf r → refusalLine n ≡ printed script r
+    go (lawful events) q = absurd (h q)
+    go (refused m) q = ap refusalLine q
+
+-- what the code needs on its way, in the words of its callees
+module _ (script : List ℕ) (h : numberOf (readingOf script) ≡ 0) where
+  pub events-ready : (count start at len : ℕ) → count ≡ eventCount script → start ≡ eventsStart script → at ≤ 64 → 65536 ≤ len
+      → (count ≤ 1000) × (at + 48 * count + 64 ≤ len) × (numberOf (eventsFrom script count start) ≡ 0)
+  events-ready count start at len ec ea r l =
+      let few : count ≤ 1000 = omega (arith, parts script h .few) in
+      (few, omega arith, rw (ec, ea) (events-lawful script h))
+
+  pub blocks-ready : (size blocks count at place len : ℕ) → size ≡ imageSize script → blocks ≡ blocksOf size → count ≡ eventCount script
+      → place ≤ 64 → at ≤ place + 48 * count → 65536 ≤ len → (blocks ≤ 256) × (at + 48 * blocks + 64 ≤ len)
+  blocks-ready size blocks count at place len es eb ec p r l =
+      let few : count ≤ 1000 = omega (arith, parts script h .few) in
+      let k : blocks ≤ 256 = rw (eb, es) (size-fits (imageSize script) (parts script h .known) .1) in
+      (k, omega arith)
+
+  pub space-fits : (size : ℕ) (space : List ℕ) → size ≡ imageSize script → 4096 ≡ length space → (size ≤ length space) × (length (take size space) ≡ size)
+  space-fits size space e l =
+      let k : size ≤ 4096 = rw e (size-fits (imageSize script) (parts script h .known) .0) in
+      let r : size ≤ length space = omega arith in
+      (r, length-take-le size space r)
+
+-- the promise of the whole
+pub finished : (out text last whole : List ℕ) (r : ℕ) → text ≡ whole → Put out 0 text last r
+    → (r ≡ length whole) × ((last ≡ putOf out 0 whole) × (r ≤ length last))
+finished out text last whole r e p =
+    let m : r ≡ 0 + length text = p .moved in
+    let l : length last ≡ length out = ap (λ (l : List ℕ). length l) (p .here) ∙ put-length out 0 text (omega (arith, p .fits)) in
+    (omega (arith, ap (λ (l : List ℕ). length l) e), (p .here ∙ ap (putOf out 0) e, omega (arith, p .fits)))

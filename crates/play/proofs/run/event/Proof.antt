@@ -1,0 +1,27 @@
+-- A field reset or a frame.
+use mathlib.Core.Path.{_∙_}
+use borrow.Author.Tests.{eq-eqb, ne-eqb}
+use Rattle.play.specs.Run.{eventAnswer, eventImage}
+use borrow.Author.Needs.{needs}
+use Rattle.play.proofs.run.event.Statement.{statement}
+use Rattle.play.proofs.run.event.Tie as tie
+
+field-reset-requires : tie.Need-field-reset-requires
+field-reset-requires c κs = search needs
+
+returns : tie.Need-returns
+unfolding eventAnswer eventImage
+returns c = (c .field-reset .ensures ∙ rw (eq-eqb _ _ (c .before .if1 .taken)), rw (eq-eqb _ _ (c .before .if1 .taken)))
+
+step-requires : tie.Need-step-requires
+step-requires c κs = search needs
+
+same-length : tie.Need-same-length
+same-length c = search needs
+
+returns-2 : tie.Need-returns-2
+unfolding eventAnswer eventImage
+returns-2 c = (c .before .before .step .ensures .0 ∙ rw (ne-eqb _ _ (c .before .before .before .before .if1 .left)), c .before .before .step .ensures .1 ∙ rw (ne-eqb _ _ (c .before .before .before .before .if1 .left)))
+
+pub event-spec : {M : Type 1} → statement M
+event-spec = tie.close (tie.spec field-reset-requires returns step-requires same-length returns-2)

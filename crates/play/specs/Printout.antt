@@ -1,0 +1,73 @@
+-- The printout: every byte of it, as a definition of the script's bytes.
+use mathlib.Core.Bool.{cond}
+use mathlib.Core.List.{List, [], _∷_, _++_}
+use Prim.Native.Nat.{ℕ, zero, suc, _+_}
+use Rattle.layout.specs.Layout.{blocksOf}
+use Rattle.layout.specs.declared.Block.{Block}
+use Rattle.memory.specs.Memory.{contentOf}
+use Rattle.value.specs.Block.{same}
+use Rattle.session.specs.Session.{freshOf}
+use Rattle.card.specs.declared.Sign.{Sign}
+use Rattle.card.specs.declared.Sign.the-variants.{Ack, Nak, Data, Nothing}
+use Rattle.card.specs.declared.Answer.{Answer}
+use Rattle.script.specs.Script.{Reading, lawful, refused, imageSize, imageOf, eventCount, readingOf}
+use Rattle.play.specs.Text.{space, newline, decimalOf, hexOf}
+use Rattle.play.specs.Run.{answersOf, runImage}
+
+-- `script`, a space and the number of the refusal
+unfoldable pub refusalLine : ℕ → List ℕ
+refusalLine n = 115 ∷ 99 ∷ 114 ∷ 105 ∷ 112 ∷ 116 ∷ space ∷ (decimalOf n ++ (newline ∷ []))
+
+-- `card`, the image's size, `events` and how many they are
+unfoldable pub headerLine : ℕ → ℕ → List ℕ
+headerLine size count =
+    99 ∷ 97 ∷ 114 ∷ 100 ∷ space
+    ∷ (decimalOf size ++ (space ∷ 101 ∷ 118 ∷ 101 ∷ 110 ∷ 116 ∷ 115 ∷ space ∷ (decimalOf count ++ (newline ∷ []))))
+
+-- what an answer shows: A, N, - or the reply
+unfoldable pub markOf : Sign → List ℕ → List ℕ
+markOf Ack reply = 65 ∷ []
+markOf Nak reply = 78 ∷ []
+markOf Data reply = hexOf reply
+markOf Nothing reply = 45 ∷ []
+
+-- an event's number, its result and what it shows
+unfoldable pub eventLine : ℕ → Answer → List ℕ
+eventLine i a = decimalOf i ++ (space ∷ (decimalOf (a .number) ++ (space ∷ (markOf (a .sign) (a .reply) ++ (newline ∷ [])))))
+
+unfoldable pub eventLines : ℕ → List Answer → List ℕ
+eventLines i [] = []
+eventLines i (a ∷ rest) = eventLine i a ++ eventLines (i + 1) rest
+
+-- `block`, its address and its bytes
+unfoldable pub blockLine : ℕ → List ℕ → List ℕ
+blockLine b bytes =
+    98 ∷ 108 ∷ 111 ∷ 99 ∷ 107 ∷ space ∷ (decimalOf b ++ (space ∷ (hexOf bytes ++ (newline ∷ []))))
+
+abbrev pub blockAt : ℕ → Block
+blockAt n = record { 0 = n }
+
+-- a line for a block that differs between two images
+unfoldable pub changeLine : List ℕ → List ℕ → ℕ → List ℕ
+changeLine old new b =
+    cond (same (contentOf old (blockAt b)) (contentOf new (blockAt b))) [] (blockLine b (contentOf new (blockAt b)))
+
+-- such lines for n blocks from b on
+unfoldable pub changedFrom : List ℕ → List ℕ → ℕ → ℕ → List ℕ
+changedFrom old new zero b = []
+changedFrom old new (suc n) b = changeLine old new b ++ changedFrom old new n (b + 1)
+
+-- a lawful script: the header, a line for each event, and the blocks that differ at the end
+unfoldable pub playedOf : List ℕ → List (List ℕ) → List ℕ
+playedOf script events =
+    headerLine (imageSize script) (eventCount script)
+    ++ (eventLines 1 (answersOf (imageOf script) freshOf events)
+    ++ changedFrom (imageOf script) (runImage (imageOf script) freshOf events) (blocksOf (imageSize script)) 0)
+
+unfoldable pub printed : List ℕ → Reading → List ℕ
+printed script (lawful events) = playedOf script events
+printed script (refused n) = refusalLine n
+
+-- the whole printout of any script
+unfoldable pub printoutOf : List ℕ → List ℕ
+printoutOf script = printed script (readingOf script)
