@@ -7,11 +7,12 @@ use Prim.Native.Nat.{ℕ, _+_, _*_, _<_, _≤_}
 use native.Mathlib.Omega.{arith}
 use lib.Dec.{eqb, ltb, leb}
 use lib.ListN.{length, take, drop, length-drop}
-use lib.Seq.{length-take-le}
-use borrow.Author.Tests.{ltb-false, eqb-true, eqb-false, le-leb}
+use lib.Seq.{length-take-le, take-all}
+use borrow.Author.Tests.{ltb-true, ltb-false, eqb-true, eqb-false, le-leb}
 use Rattle.layout.specs.Layout.{sectorsOf, blocksIn, blocksOf}
 use Rattle.session.specs.Session.{freshOf}
 use Rattle.script.specs.Script.{Reading, lawful, refused, numberOf, imageSize, imageOf, eventCount, eventsStart, eventsFrom, readingOf}
+use Rattle.script.proofs.Long.{long-refused}
 use Rattle.play.specs.Text.{putOf, Put}
 use Rattle.play.specs.Run.{answersOf, runImage, eventsIn}
 use Rattle.play.specs.Printout.{refusalLine, headerLine, eventLines, changedFrom, playedOf, printed, printoutOf}
@@ -114,3 +115,12 @@ finished out text last whole r e p =
     let m : r ≡ 0 + length text = p .moved in
     let l : length last ≡ length out = ap (λ (l : List ℕ). length l) (p .here) ∙ put-length out 0 text (omega (arith, p .fits)) in
     (omega (arith, ap (λ (l : List ℕ). length l) e), (p .here ∙ ap (putOf out 0) e, omega (arith, p .fits)))
+
+-- an input that goes on past the longest lawful script prints what its first 23,101 bytes print
+pub long-printout : (script : List ℕ) → printoutOf (take 23101 script) ≡ printoutOf script
+unfolding printoutOf printed
+long-printout script = go (ltb 23100 (length script)) refl
+  where
+    go : (u : Bool) → ltb 23100 (length script) ≡ u → printoutOf (take 23101 script) ≡ printoutOf script
+    go false e = ap printoutOf (take-all 23101 script (let h : length script ≤ 23100 = ltb-false 23100 (length script) e in omega arith))
+    go true e = let r = long-refused script (ltb-true 23100 (length script) e) in rw (r .1, r .2)
