@@ -46,7 +46,7 @@ unfoldable pub before : List ℕ → Reading → Reading
 before event (lawful events) = lawful (event ∷ events)
 before event (refused n) = refused n
 
--- n events from a place on, and then the end: 20 the script ends too soon, 23 an event is too long, 24 something is left
+-- n events from a place on, and then the end: 20 something is missing, 23 an event claims more than eighteen bytes, 24 something is left over
 unfoldable pub eventsFrom : List ℕ → ℕ → ℕ → Reading
 eventsFrom script zero at = cond (ltb at (length script)) (refused 24) (lawful [])
 eventsFrom script (suc n) at =
@@ -56,7 +56,7 @@ eventsFrom script (suc n) at =
     (before (frameAt script at) (eventsFrom script n (nextAt script at)))))
     (refused 20)
 
--- the whole script: 21 no card has an image of that size, 22 there are more than a thousand events
+-- the whole script: 20 again, 21 no card has an image of that size, 22 more than a thousand events are claimed
 unfoldable pub readingOf : List ℕ → Reading
 readingOf script =
     cond (ltb (length script) 2) (refused 20)
