@@ -45,6 +45,13 @@ signOf (Loaded v a) = Nothing
 signOf (Moved b v a) = Ack
 signOf Halted = Nothing
 
+-- a sign as a number, for those who keep answers as bytes
+abbrev pub signCode : Sign → ℕ
+signCode Ack = 0
+signCode Nak = 1
+signCode Data = 2
+signCode Nothing = 3
+
 -- the block as a Read shows it
 unfoldable pub shownOf : List ℕ → Block → List ℕ
 shownOf image b = cond (isTrailer b) (shownTrailer (contentOf image b)) (contentOf image b)

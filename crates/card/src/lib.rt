@@ -1,5 +1,7 @@
 // The card: one frame, one answer.
 ghost use mathlib.Core.Path.{_≡_};
+ghost use Prim.Native.Nat.{_<_};
+ghost use Rattle.card.specs.Effects.{signCode};
 ghost use Rattle.card.specs.Step.{answerOf, imageAfter, resetOf};
 
 mod effects;
@@ -14,6 +16,19 @@ pub enum Sign {
     Nak,
     Data,
     Nothing,
+}
+
+// A sign as a number, for those who keep answers as bytes.
+pub fn sign_code(sign: Sign) -> u8
+    ensures { λ r. ⌜ r ≡ signCode sign ⌝ }
+    ensures { λ r. ⌜ r < 4 ⌝ }
+{
+    match sign {
+        Sign::Ack => 0,
+        Sign::Nak => 1,
+        Sign::Data => 2,
+        Sign::Nothing => 3,
+    }
 }
 
 // The number (0 is accepted), the sign, the sixteen reply bytes and the session afterwards.

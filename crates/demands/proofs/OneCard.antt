@@ -6,9 +6,11 @@ use Prim.Native.Nat.{ℕ}
 use base.Fml.{Lft}
 use denote.Ref.{RefT, at-last}
 use Rattle.session.specs.declared.Session.{Session}
+use Rattle.card.specs.declared.Sign.{Sign}
 use Rattle.card.specs.declared.Answer.{Answer}
 use Rattle.card.proofs.step.Reads as step-contract
 use Rattle.card.proofs.field_reset.Reads as field-reset-contract
+use Rattle.card.proofs.sign_code.Reads as sign-code-contract
 use Rattle.demands.specs.One.{OneResult}
 use Rattle.demands.proofs.Exact.{exact}
 
@@ -22,3 +24,6 @@ step κ κ′ image s frame r r′ last last′ p q = (p .0 ∙ sym (q .0), p .1
 
 pub field-reset : OneResult (λ r. field-reset-contract.Post tt tt r tt)
 field-reset = exact
+
+pub sign-code : (sign : Sign) → OneResult (λ r. sign-code-contract.Post tt (sign, tt) r (sign, tt))
+sign-code sign r r′ p q = p .0 ∙ sym (q .0)
