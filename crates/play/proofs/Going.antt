@@ -1,4 +1,4 @@
--- The run's invariant: what is put so far, with the lines of what is still ahead, are the lines of the whole.
+-- The run's invariant: what is kept so far, with what is still ahead, is the whole.
 -- Assumes nothing.
 use mathlib.Core.Path.{_≡_, refl, sym, _∙_, ap}
 use mathlib.Core.Bool.{Bool, true, false, cond}
@@ -12,8 +12,11 @@ use Rattle.session.specs.declared.Session.{Session}
 use Rattle.card.specs.declared.Answer.{Answer}
 use Rattle.script.specs.Script.{Reading, lawful, refused, numberOf, frameAt, nextAt, before, eventsFrom}
 use Rattle.play.specs.Text.{putOf, Put}
-use Rattle.play.specs.Run.{eventAnswer, eventImage, answersOf, runImage, eventsIn}
-use Rattle.play.specs.Printout.{eventLine, eventLines}
+use Rattle.play.specs.Run.{eventAnswer, eventImage, answersOf, sessionAfter, runImage, eventsIn}
+use Rattle.play.specs.Printout.{eventLines}
+use Rattle.play.specs.Results.{widthOf, resultsOf, keptOne, keptOf}
+use Rattle.play.specs.declared.events.Form.{Form}
+use Rattle.play.specs.declared.events.Form.the-variants.{Lines, Results}
 use Rattle.play.proofs.Put.{put-nothing, put-length, then}
 
 -- a reading that begins with an event
@@ -80,7 +83,37 @@ is-lawful script (suc n) place h =
     go true false false (lawful es) f q = refl
     go true false false (refused m) f q = let z : refused m ≡ lawful [] = f q in cc
 
-module _ (script : List ℕ) (image₀ out₀ : List ℕ) (at count start : ℕ) where
+-- one answer after the other, in either form
+kept-none : (f : Form) (i : ℕ) → keptOf f i [] ≡ []
+unfolding eventLines resultsOf
+kept-none Lines i = refl
+kept-none Results i = refl
+
+kept-more : (f : Form) (i : ℕ) (a : Answer) (rest : List Answer) → keptOf f i (a ∷ rest) ≡ keptOne f i a ++ keptOf f (i + 1) rest
+unfolding eventLines resultsOf
+kept-more Lines i a rest = refl
+kept-more Results i a rest = refl
+
+within : (x y z : ℕ) → x ≤ y → y ≤ z → x ≤ z
+within x y z p q = omega arith
+
+same-room : (x : ℕ) → x ≤ x
+same-room x = omega arith
+
+-- the room that is left after one answer more
+room-next : (f : Form) (to to′ left end : ℕ) → 0 < left → to + widthOf f * left ≤ end → to′ ≤ to + widthOf f → to′ + widthOf f * (left - 1) ≤ end
+room-next Lines to to′ left end h r m = omega arith
+room-next Results to to′ left end h r m = omega arith
+
+room-here : (f : Form) (to left end : ℕ) → 0 < left → to + widthOf f * left ≤ end → to + widthOf f ≤ end
+room-here Lines to left end h r = omega arith
+room-here Results to left end h r = omega arith
+
+room-end : (f : Form) (to left end : ℕ) → to + widthOf f * left ≤ end → to ≤ end
+room-end Lines to left end r = omega arith
+room-end Results to left end r = omega arith
+
+module _ (form : Form) (script : List ℕ) (image₀ out₀ : List ℕ) (at count start : ℕ) where
   -- the events of the whole
   abbrev all : List (List ℕ)
   all = eventsIn (eventsFrom script count start)
@@ -90,54 +123,60 @@ module _ (script : List ℕ) (image₀ out₀ : List ℕ) (at count start : ℕ)
     pub done : List ℕ
     pub ahead : eventsFrom script left place ≡ lawful rest
     pub put : Put out₀ at done out to
-    pub lines : done ++ eventLines i (answersOf image s rest) ≡ eventLines 1 (answersOf image₀ freshOf all)
+    pub kept : done ++ keptOf form i (answersOf image s rest) ≡ keptOf form 1 (answersOf image₀ freshOf all)
+    pub holds : sessionAfter image s rest ≡ sessionAfter image₀ freshOf all
     pub ran : runImage image s rest ≡ runImage image₀ freshOf all
     pub same-image : length image ≡ length image₀
     pub same-out : length out ≡ length out₀
     pub few : i + left ≤ 1001
-    pub room : to + 48 * left ≤ at + 48 * count
-    pub fits : at + 48 * count + 64 ≤ length out₀
+    pub room : to + widthOf form * left ≤ at + widthOf form * count
+    pub fits : at + widthOf form * count ≤ length out₀
 
-  pub begin : (s : Session) → s ≡ freshOf → count ≤ 1000 → at + 48 * count + 64 ≤ length out₀ → numberOf (eventsFrom script count start) ≡ 0
+  pub begin : (s : Session) → s ≡ freshOf → count ≤ 1000 → at + widthOf form * count ≤ length out₀ → numberOf (eventsFrom script count start) ≡ 0
       → Going image₀ out₀ s start at 1 count
   begin s e c r n =
       record {
         rest = all;
         done = [];
         ahead = is-lawful script count start n;
-        put = record { here = sym (put-nothing out₀ at); moved = omega arith; fits = omega arith };
-        lines = rw e;
+        put = record { here = sym (put-nothing out₀ at); moved = omega arith; fits = room-end form at count (length out₀) r };
+        kept = rw e;
+        holds = rw e;
         ran = rw e;
         same-image = refl;
         same-out = refl;
         few = omega arith;
-        room = omega arith;
+        room = same-room (at + widthOf form * count);
         fits = r;
       }
 
   module _ {image out : List ℕ} {s : Session} {place to i left : ℕ} (g : Going image out s place to i left) where
-    -- there is room for a line
-    pub line-room : 0 < left → to + 64 ≤ length out
-    line-room h = omega (arith, g .same-out, g .room, g .fits)
+    -- there is room for an answer
+    pub answer-room : 0 < left → to + widthOf form ≤ length out
+    answer-room h =
+        rw (g .same-out) (within (to + widthOf form) (at + widthOf form * count) (length out₀) (room-here form to left (at + widthOf form * count) h (g .room)) (g .fits))
 
     pub turn : (a : Answer) (frame image′ out′ : List ℕ) (place′ to′ : ℕ) → 0 < left → frame ≡ frameAt script place → a ≡ eventAnswer image s frame
-        → image′ ≡ eventImage image s frame → length image′ ≡ length image → Put out to (eventLine i a) out′ to′ → to′ ≤ to + 48 → place′ ≡ nextAt script place
-        → Going image′ out′ (a .session) place′ to′ (i + 1) (left - 1)
-    unfolding answersOf runImage eventLines
+        → image′ ≡ eventImage image s frame → length image′ ≡ length image → Put out to (keptOne form i a) out′ to′ → to′ ≤ to + widthOf form
+        → place′ ≡ nextAt script place → Going image′ out′ (a .session) place′ to′ (i + 1) (left - 1)
+    unfolding answersOf sessionAfter runImage
     turn a frame image′ out′ place′ to′ h f ea ei li p b ep =
         let n = next-event script left place (g .rest) h (g .ahead) in
         let ra : g .rest ≡ frame ∷ n .0 = n .1 ∙ ap (λ (x : List ℕ). x ∷ n .0) (sym f) in
         record {
           rest = n .0;
-          done = g .done ++ eventLine i a;
+          done = g .done ++ keptOne form i a;
           ahead = rw ep (n .2);
           put = then (g .put) p;
-          lines = append-assoc (g .done) (eventLine i a) _ ∙ rw (ei, ea) (ap (λ (es : List (List ℕ)). g .done ++ eventLines i (answersOf image s es)) (sym ra) ∙ g .lines);
+          kept =
+              append-assoc (g .done) (keptOne form i a) _ ∙ ap (λ (l : List ℕ). g .done ++ l) (sym (kept-more form i a _))
+              ∙ rw (ei, ea) (ap (λ (es : List (List ℕ)). g .done ++ keptOf form i (answersOf image s es)) (sym ra) ∙ g .kept);
+          holds = rw (ei, ea) (ap (sessionAfter image s) (sym ra) ∙ g .holds);
           ran = rw (ei, ea) (ap (runImage image s) (sym ra) ∙ g .ran);
           same-image = li ∙ g .same-image;
-          same-out = ap length (p .here) ∙ put-length out to (eventLine i a) (omega (arith, p .moved, p .fits)) ∙ g .same-out;
+          same-out = ap length (p .here) ∙ put-length out to (keptOne form i a) (omega (arith, p .moved, p .fits)) ∙ g .same-out;
           few = omega (arith, g .few);
-          room = omega (arith, g .room);
+          room = room-next form to to′ left (at + widthOf form * count) h (g .room) b;
           fits = g .fits;
         }
 
@@ -145,16 +184,21 @@ module _ (script : List ℕ) (image₀ out₀ : List ℕ) (at count start : ℕ)
       over : g .rest ≡ []
       over = last-event script left place (g .rest) h (g .ahead)
 
-      pub end-lines : Put out₀ at (eventLines 1 (answersOf image₀ freshOf all)) out to
-      unfolding answersOf eventLines
-      end-lines =
-          let e : g .done ≡ eventLines 1 (answersOf image₀ freshOf all) =
-          sym (append-nil (g .done)) ∙ ap (λ (es : List (List ℕ)). g .done ++ eventLines i (answersOf image s es)) (sym over) ∙ g .lines in
+      pub end-kept : Put out₀ at (keptOf form 1 (answersOf image₀ freshOf all)) out to
+      unfolding answersOf
+      end-kept =
+          let e : g .done ≡ keptOf form 1 (answersOf image₀ freshOf all) =
+          sym (append-nil (g .done)) ∙ ap (λ (l : List ℕ). g .done ++ l) (sym (kept-none form i))
+          ∙ ap (λ (es : List (List ℕ)). g .done ++ keptOf form i (answersOf image s es)) (sym over) ∙ g .kept in
           rw (← e) (g .put)
+
+      pub end-session : s ≡ sessionAfter image₀ freshOf all
+      unfolding sessionAfter
+      end-session = ap (sessionAfter image s) (sym over) ∙ g .holds
 
       pub end-image : image ≡ runImage image₀ freshOf all
       unfolding runImage
       end-image = ap (runImage image s) (sym over) ∙ g .ran
 
-      pub end-place : to ≤ at + 48 * count
-      end-place = omega (arith, g .room)
+      pub end-place : to ≤ at + widthOf form * count
+      end-place = room-end form to left (at + widthOf form * count) (g .room)

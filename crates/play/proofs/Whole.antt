@@ -90,7 +90,7 @@ refusal-printed script n e h = go (readingOf script) e
 -- what the code needs on its way, in the words of its callees
 module _ (script : List ℕ) (h : numberOf (readingOf script) ≡ 0) where
   pub events-ready : (count start at len : ℕ) → count ≡ eventCount script → start ≡ eventsStart script → at ≤ 64 → 65536 ≤ len
-      → (count ≤ 1000) × (at + 48 * count + 64 ≤ len) × (numberOf (eventsFrom script count start) ≡ 0)
+      → (count ≤ 1000) × (at + 48 * count ≤ len) × (numberOf (eventsFrom script count start) ≡ 0)
   events-ready count start at len ec ea r l =
       let few : count ≤ 1000 = omega (arith, parts script h .few) in
       (few, omega arith, rw (ec, ea) (events-lawful script h))

@@ -1,3 +1,4 @@
 pub mod Text
 pub mod Run
 pub mod Printout
+pub mod Results

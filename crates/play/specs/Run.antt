@@ -7,7 +7,7 @@ use lib.ListN.{length}
 use Rattle.session.specs.declared.Session.{Session}
 use Rattle.card.specs.Step.{answerOf, imageAfter, resetOf}
 use Rattle.card.specs.declared.Answer.{Answer}
-use Rattle.script.specs.Script.{Reading, lawful, refused}
+use Rattle.script.specs.Script.{Reading, lawful, refused, readingOf}
 
 -- one event: an empty one is a field reset, any other a frame
 unfoldable pub eventAnswer : List ℕ → Session → List ℕ → Answer
@@ -33,3 +33,6 @@ runImage image s (e ∷ es) = runImage (eventImage image s e) (eventAnswer image
 unfoldable pub eventsIn : Reading → List (List ℕ)
 eventsIn (lawful events) = events
 eventsIn (refused n) = []
+
+unfoldable pub eventsOf : List ℕ → List (List ℕ)
+eventsOf script = eventsIn (readingOf script)

@@ -2,14 +2,43 @@
 ghost use mathlib.Core.Path.{_≡_};
 ghost use Prim.Native.Nat.{_≤_};
 ghost use lib.ListN.{length};
+ghost use Rattle.session.specs.Session.{freshOf};
 ghost use Rattle.script.specs.Script.{numberOf, imageSize, readingOf};
 ghost use Rattle.play.specs.Text.{putOf, Put};
+ghost use Rattle.play.specs.Run.{answersOf, sessionAfter, runImage, eventsOf};
+ghost use Rattle.play.specs.Results.{resultsOf};
 ghost use Rattle.play.specs.Printout.{printoutOf};
 
 mod changes;
+mod events;
 mod lines;
-mod run;
+mod results;
 mod text;
+
+use events::Form;
+use session::Session;
+
+// Where the kept answers end, and the session after the last event.
+pub struct Ended {
+    pub end: usize,
+    pub session: Session,
+}
+
+// The events of a script, none of a refused one, played on any image from a fresh session. Each result takes eighteen bytes.
+pub fn run(script: &[u8], image: &mut [u8], results: &mut [u8; 18000]) -> Ended
+    ensures { λ r. ⌜ r .session ≡ sessionAfter (now (image .entry)) freshOf (eventsOf (now (script .entry))) ⌝ }
+    ensures { λ _. ⌜ now (image .exit) ≡ runImage (now (image .entry)) freshOf (eventsOf (now (script .entry))) ⌝ }
+    ensures { λ r. ⌜ r .end ≡ length (resultsOf (answersOf (now (image .entry)) freshOf (eventsOf (now (script .entry))))) ⌝ }
+    ensures { λ _. ⌜ now (results .exit) ≡ putOf (now (results .entry)) 0 (resultsOf (answersOf (now (image .entry)) freshOf (eventsOf (now (script .entry))))) ⌝ }
+{
+    if script::refusal_of(script) != 0 {
+        let session = session::fresh();
+        return Ended { end: 0, session };
+    }
+    let count = script::event_count(script);
+    let start = script::events_start(script);
+    events::keep_events(Form::Results, image, script, count, start, results, 0)
+}
 
 // A copy of some bytes into as many.
 fn copy_in(from: &[u8], to: &mut [u8])
@@ -34,8 +63,8 @@ fn put_run(script: &[u8], image: &mut [u8], out: &mut [u8]) -> usize
     let count = script::event_count(script);
     let start = script::events_start(script);
     let events = lines::put_header(out, 0, size, count);
-    let blocks = run::put_events(image, script, count, start, out, events);
-    changes::put_changes(first, &image[..], layout::blocks_of(size), out, blocks)
+    let ended = events::keep_events(Form::Lines, image, script, count, start, out, events);
+    changes::put_changes(first, &image[..], layout::blocks_of(size), out, ended.end)
 }
 
 // Room for the image of any card.

@@ -48,7 +48,7 @@ fn put_mark(out: &mut [u8], at: usize, sign: Sign, reply: [u8; 16]) -> usize
 
 // An event's number, its result and what it shows.
 pub(crate) fn put_event(out: &mut [u8], at: usize, i: usize, a: Answer) -> usize
-    requires { ⌜ at + 64 ≤ length (now out) ⌝ }
+    requires { ⌜ at + 48 ≤ length (now out) ⌝ }
     ensures { λ r. ⌜ Put (now (out .entry)) at (eventLine i a) (now (out .exit)) r ⌝ }
     ensures { λ r. ⌜ r ≤ at + 48 ⌝ }
 {

@@ -3,8 +3,8 @@ use mathlib.Core.Path.{_∙_}
 use borrow.Author.Tests.{eq-eqb, ne-eqb}
 use Rattle.play.specs.Run.{eventAnswer, eventImage}
 use borrow.Author.Needs.{needs}
-use Rattle.play.proofs.run.event.Statement.{statement}
-use Rattle.play.proofs.run.event.Tie as tie
+use Rattle.play.proofs.events.event.Statement.{statement}
+use Rattle.play.proofs.events.event.Tie as tie
 
 field-reset-requires : tie.Need-field-reset-requires
 field-reset-requires c κs = search needs

@@ -1,0 +1,73 @@
+-- The loop's invariant is `Going`; the measure is the events left.
+use native.Mathlib.Omega.{arith}
+use Rattle.play.proofs.Going.{Going, begin, answer-room, turn, end-kept, end-session, end-image, end-place}
+use borrow.Author.Needs.{needs}
+use Rattle.play.proofs.events.keep_events.Statement.{statement}
+use Rattle.play.proofs.events.keep_events.Tie as tie
+
+abbrev Inv-loop : tie.InvT-loop
+Inv-loop form image₀ script count start out₀ at s₀ place₀ to₀ i₀ left₀ image out s place to i left = Going form script image₀ out₀ at count start image out s place to i left
+
+abbrev μ-loop : tie.MeasureT-loop
+μ-loop form image₀ script count start out₀ at s₀ place₀ to₀ i₀ left₀ image out s place to i left = left
+
+fresh-requires : tie.Need-fresh-requires Inv-loop μ-loop
+fresh-requires c κs = search needs
+
+loop-holds : tie.Need-loop-holds Inv-loop μ-loop
+loop-holds c = let p = c .before .before .before .before .pre in begin _ _ _ _ _ _ _ _ (c .fresh .ensures) (p .0) (p .1) (p .2)
+
+frame-at-requires : tie.Need-frame-at-requires Inv-loop μ-loop
+frame-at-requires c κs = search needs
+
+event-requires : tie.Need-event-requires Inv-loop μ-loop
+event-requires c κs = search needs
+
+keep-requires : tie.Need-keep-requires Inv-loop μ-loop
+keep-requires c κs = answer-room _ _ _ _ _ _ _ (c .before .before .before .before .before .before .before .loop .inv) (c .before .before .before .before .before .before .loop-test .taken)
+
+next-at-requires : tie.Need-next-at-requires Inv-loop μ-loop
+next-at-requires c κs = search needs
+
+add-i : tie.Need-add-i Inv-loop μ-loop
+add-i c = omega (arith, c .before .before .before .before .before .before .before .before .before .before .before .before .loop .inv .few)
+
+sub-left : tie.Need-sub-left Inv-loop μ-loop
+sub-left c = search needs
+
+loop-less : tie.Need-loop-less Inv-loop μ-loop
+loop-less c = search needs
+
+loop-again : tie.Need-loop-again Inv-loop μ-loop
+loop-again c = turn _ _ _ _ _ _ _ (c .before .before .before .before .before .before .before .before .before .before .before .before .loop .inv) _ _ _ _ _ _ (c .before .before .before .before .before .before .before .before .before .before .before .loop-test .taken) (c .before .before .before .before .before .before .before .before .before .before .frame-at .ensures) (c .before .before .before .before .before .before .before .before .event .ensures .0) (c .before .before .before .before .before .before .before .before .event .ensures .1) (c .before .before .before .before .before .before .before .before .event .kept .0) (c .before .before .before .before .keep .ensures .0) (c .before .before .before .before .keep .ensures .1) (c .next-at .ensures)
+
+same-length : tie.Need-same-length Inv-loop μ-loop
+same-length c = c .before .loop .inv .same-image
+
+same-length-2 : tie.Need-same-length-2 Inv-loop μ-loop
+same-length-2 c = c .before .loop .inv .same-out
+
+returns : tie.Need-returns Inv-loop μ-loop
+returns c = let g = c .before .loop .inv in
+    let h = c .loop-test .left in
+    (end-kept _ _ _ _ _ _ _ g h, (end-session _ _ _ _ _ _ _ g h, (end-image _ _ _ _ _ _ _ g h, end-place _ _ _ _ _ _ _ g h)))
+
+pub keep-events-spec : {M : Type 1} → statement M
+keep-events-spec =
+    tie.close
+    (tie.spec
+    Inv-loop
+    μ-loop
+    fresh-requires
+    loop-holds
+    frame-at-requires
+    event-requires
+    keep-requires
+    next-at-requires
+    add-i
+    sub-left
+    loop-less
+    loop-again
+    same-length
+    same-length-2
+    returns)

@@ -1,0 +1,37 @@
+-- The parts of a result, one after the other.
+use native.Mathlib.Omega.{arith}
+use Rattle.play.specs.Results.{resultOf}
+use Rattle.play.proofs.Put.{then}
+use borrow.Author.Needs.{needs}
+use Rattle.play.proofs.results.put_result.Statement.{statement}
+use Rattle.play.proofs.results.put_result.Tie as tie
+
+put-byte-requires : tie.Need-put-byte-requires
+put-byte-requires c κs = search needs
+
+sign-code-requires : tie.Need-sign-code-requires
+sign-code-requires c κs = search needs
+
+put-byte-requires-2 : tie.Need-put-byte-requires-2
+put-byte-requires-2 c κs = search needs
+
+put-reply-requires : tie.Need-put-reply-requires
+put-reply-requires c κs = search needs
+
+same-length : tie.Need-same-length
+same-length c = search needs
+
+returns : tie.Need-returns
+unfolding resultOf
+returns c = (then (c .before .before .before .before .before .before .before .before .before .before .before .put-byte .ensures) (then (rw (c .before .before .before .before .before .before .before .sign-code .ensures .0) at (c .before .before .before .before .before .before .put-byte2 .ensures)) (c .before .before .put-reply .ensures .0)), omega (arith, c .before .before .before .before .before .before .before .before .before .before .before .put-byte .ensures .moved, c .before .before .before .before .before .before .put-byte2 .ensures .moved, c .before .before .put-reply .ensures .1))
+
+pub put-result-spec : {M : Type 1} → statement M
+put-result-spec =
+    tie.close
+    (tie.spec
+    put-byte-requires
+    sign-code-requires
+    put-byte-requires-2
+    put-reply-requires
+    same-length
+    returns)

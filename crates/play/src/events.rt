@@ -1,0 +1,76 @@
+// The run: the events of a lawful script, one after the other, each answer kept as it comes.
+ghost use mathlib.Core.Path.{_≡_};
+ghost use Prim.Native.Nat.{_+_, _*_, _≤_};
+ghost use lib.ListN.{length};
+ghost use Rattle.session.specs.Session.{freshOf};
+ghost use Rattle.script.specs.Script.{numberOf, eventsFrom};
+ghost use Rattle.play.specs.Text.{Put};
+ghost use Rattle.play.specs.Run.{eventAnswer, eventImage, answersOf, sessionAfter, runImage, eventsIn};
+ghost use Rattle.play.specs.Results.{widthOf, keptOne, keptOf};
+use crate::Ended;
+use crate::lines::put_event;
+use crate::results::put_result;
+use card::Answer;
+use session::Session;
+
+// How answers are kept: each as its line of the printout, or as eighteen bytes.
+pub(crate) enum Form {
+    Lines,
+    Results,
+}
+
+// One event: an empty one is a field reset.
+fn event(image: &mut [u8], s: Session, frame: &[u8]) -> Answer
+    ensures { λ r. ⌜ r ≡ eventAnswer (now (image .entry)) s (now (frame .entry)) ⌝ }
+    ensures { λ _. ⌜ now (image .exit) ≡ eventImage (now (image .entry)) s (now (frame .entry)) ⌝ }
+{
+    if frame.len() == 0 {
+        return card::field_reset();
+    }
+    card::step(image, s, frame)
+}
+
+// The answer to event i, kept from a place on.
+fn keep(form: Form, out: &mut [u8], at: usize, i: usize, a: Answer) -> usize
+    requires { ⌜ at + widthOf form ≤ length (now out) ⌝ }
+    ensures { λ r. ⌜ Put (now (out .entry)) at (keptOne form i a) (now (out .exit)) r ⌝ }
+    ensures { λ r. ⌜ r ≤ at + widthOf form ⌝ }
+{
+    match form {
+        Form::Lines => put_event(out, at, i, a),
+        Form::Results => put_result(out, at, a),
+    }
+}
+
+// So many events from a place on, played from a fresh session.
+pub(crate) fn keep_events(
+    form: Form,
+    image: &mut [u8],
+    script: &[u8],
+    count: usize,
+    start: usize,
+    out: &mut [u8],
+    at: usize,
+) -> Ended
+    requires { ⌜ (count ≤ 1000) × (at + widthOf form * count ≤ length (now out)) × (numberOf (eventsFrom (now script) count start) ≡ 0) ⌝ }
+    ensures { λ r. ⌜ Put (now (out .entry)) at (keptOf form 1 (answersOf (now (image .entry)) freshOf (eventsIn (eventsFrom (now (script .entry)) count start)))) (now (out .exit)) (r .end) ⌝ }
+    ensures { λ r. ⌜ r .session ≡ sessionAfter (now (image .entry)) freshOf (eventsIn (eventsFrom (now (script .entry)) count start)) ⌝ }
+    ensures { λ _. ⌜ now (image .exit) ≡ runImage (now (image .entry)) freshOf (eventsIn (eventsFrom (now (script .entry)) count start)) ⌝ }
+    ensures { λ r. ⌜ r .end ≤ at + widthOf form * count ⌝ }
+{
+    let mut session = session::fresh();
+    let mut place = start;
+    let mut end = at;
+    let mut i: usize = 1;
+    let mut left = count;
+    while 0 < left {
+        let frame = script::frame_at(script, place);
+        let a = event(image, session, frame);
+        end = keep(form, out, end, i, a);
+        session = a.session;
+        place = script::next_at(script, place);
+        i += 1;
+        left -= 1;
+    }
+    Ended { end, session }
+}
