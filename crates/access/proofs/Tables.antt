@@ -1,7 +1,7 @@
 -- The tables as a whole: each printed row is the one that its bits look up.
 -- Assumes nothing.
 use mathlib.Core.Path.{_≡_, refl}
-use mathlib.Core.List.{List, map}
+use mathlib.Core.List.{map}
 use Rattle.access.specs.declared.rights.DataRow.{DataRow}
 use Rattle.access.specs.declared.rights.TrailerRow.{TrailerRow}
 use Rattle.access.specs.Rights.{Printed, dataTable, trailerTable, dataRow, trailerRow}

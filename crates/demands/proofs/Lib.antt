@@ -1,4 +1,8 @@
 pub mod Starred
+pub mod Demand1
+pub mod Demand2
+pub mod Demand3
+pub mod Example
 pub mod Exact
 pub mod OneLayout
 pub mod OneMemory

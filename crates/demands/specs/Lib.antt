@@ -1,2 +1,6 @@
 pub mod Starred
 pub mod One
+pub mod Demand1
+pub mod Demand2
+pub mod Demand3
+pub mod Example

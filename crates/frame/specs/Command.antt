@@ -9,7 +9,6 @@ use Rattle.access.specs.declared.rights.Letter.the-variants.{KeyA, KeyB}
 use Rattle.session.specs.declared.Kind.the-variants.{Increment, Decrement, Restore}
 use Rattle.session.specs.declared.Stage.{Stage}
 use Rattle.session.specs.declared.Stage.the-variants.{Idle, WriteWaits, ValueWaits}
-use Rattle.frame.specs.declared.Deed.{Deed}
 use Rattle.frame.specs.declared.Deed.the-variants.{Read, Write, Store, Begin, Apply, Transfer}
 use Rattle.frame.specs.declared.Command.{Command}
 use Rattle.frame.specs.declared.Command.the-variants.{Unknown, Authenticate, Memory, Halt}

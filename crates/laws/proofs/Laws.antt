@@ -2,17 +2,17 @@
 -- Assumes nothing.
 use mathlib.Core.Path.{_≡_, refl, sym, _∙_, ap}
 use mathlib.Core.Bool.{Bool, true, false, cond, _||_, false≢true}
-use mathlib.Core.List.{List, [], _∷_}
+use mathlib.Core.List.{List}
 use Prim.Native.Nat.{ℕ, _<_}
 use native.Mathlib.Omega.{arith}
-use lib.Dec.{eqb, ltb}
+use lib.Dec.{eqb}
 use lib.ListN.{length}
-use borrow.Author.Tests.{eqb-true, eqb-false, eq-eqb, ltb-true}
+use borrow.Author.Tests.{eqb-true, eq-eqb, ltb-true}
 use Rattle.layout.specs.Layout.{sectorsOf, blocksIn, blocksOf, hasSector, hasBlock, sectorOf, trailerOf, isTrailer}
 use Rattle.layout.specs.declared.Block.{Block}
 use Rattle.layout.specs.declared.Sector.{Sector}
 use Rattle.layout.proofs.Laws.{trailer-in-sector, sector-exists, has-sector}
-use Rattle.memory.specs.Memory.{sixteenOf, contentOf, storeOf}
+use Rattle.memory.specs.Memory.{contentOf}
 use Rattle.memory.proofs.Laws.{store-length, store-back, store-other}
 use Rattle.access.specs.Bits.{accessBytesOf, wellFormed}
 use Rattle.access.specs.declared.rights.Operation.{Operation}
@@ -22,7 +22,6 @@ use Rattle.value.proofs.Blocks.{encode-length}
 use Rattle.session.specs.Session.{freshOf, fits, coherentOf, inSector}
 use Rattle.session.specs.declared.Auth.{Auth}
 use Rattle.session.specs.declared.Auth.the-variants.{Nobody, As}
-use Rattle.session.specs.declared.Stage.{Stage}
 use Rattle.session.specs.declared.Stage.the-variants.{Idle, WriteWaits, ValueWaits}
 use Rattle.session.specs.declared.Session.{Session}
 use Rattle.frame.specs.Command.{blockAt}

@@ -1,6 +1,6 @@
 -- Every act of the judgement is one that was accepted, or a refusal with a number.
 -- Assumes nothing.
-use mathlib.Core.Path.{_≡_, refl, sym, _∙_, ap}
+use mathlib.Core.Path.{_≡_, refl}
 use mathlib.Core.Bool.{Bool, true, false, cond, not, _&&_, false≢true}
 use mathlib.Core.List.{List, [], _∷_, _++_}
 use Prim.Native.Nat.{ℕ}
@@ -24,7 +24,6 @@ use Rattle.session.specs.declared.Register.{Register}
 use Rattle.session.specs.declared.Register.the-variants.{Empty, Full}
 use Rattle.session.specs.declared.Session.{Session}
 use Rattle.frame.specs.Command.{commandOf, firstOf, eightOf, twoOf}
-use Rattle.frame.specs.declared.Deed.{Deed}
 use Rattle.frame.specs.declared.Deed.the-variants.{Read, Write, Store, Begin, Apply, Transfer}
 use Rattle.frame.specs.declared.Command.{Command}
 use Rattle.frame.specs.declared.Command.the-variants.{Unknown, Authenticate, Memory, Halt}
@@ -32,9 +31,7 @@ use Rattle.judge.specs.First.{Check, check, first, ruled}
 use Rattle.judge.specs.Checks.{noBlock, otherSector, isBlocked, wrongKey, noValue, kindColumn, columnOf, memoryChecks, checksOf, authenticateChecks, frameChecks}
 use Rattle.judge.specs.Judge.{totalFor, loadOf, appliedOf, moveOf, doneOf, commandedOf, judgeOf}
 use Rattle.judge.specs.declared.Act.{Act}
-use Rattle.judge.specs.declared.Act.the-variants.{Refused, Authenticated, Shown, Waits, Stored, Loaded, Moved, Halted}
-use Rattle.judge.specs.declared.checks.Verdict.{Verdict}
-use Rattle.judge.specs.declared.checks.Verdict.the-variants.{Pass, Refuse}
+use Rattle.judge.specs.declared.checks.Verdict.the-variants.{Pass}
 use Rattle.laws.specs.Accepted.{Allowed, Countable, Admitted, Accepted}
 
 -- a list that passes: its first check does not apply, and the rest passes

@@ -1,14 +1,13 @@
 -- What a card needs of the layout, over any number of sectors and not size by size.
 -- Assumes nothing.
-use mathlib.Core.Path.{_≡_, refl, ap, sym, _∙_}
+use mathlib.Core.Path.{_≡_, refl}
 use mathlib.Core.Bool.{Bool, true, false}
 use Prim.Native.Nat.{ℕ, _+_, _*_, _-_, _/_, _%_, _<_, _≤_}
 use native.Mathlib.Omega.{arith}
 use lib.Dec.{ltb, leb, eqb}
-use borrow.Author.Tests.{ltb-true, ltb-false, leb-true, leb-false, eqb-true, eqb-false, lt-ltb, le-ltb, eq-eqb}
+use borrow.Author.Tests.{ltb-true, ltb-false, leb-true, leb-false, eqb-true, lt-ltb, le-ltb, eq-eqb}
 use Rattle.layout.specs.declared.Block.{Block}
 use Rattle.layout.specs.declared.Sector.{Sector}
-use Rattle.layout.specs.declared.Group.{Group}
 use Rattle.layout.specs.declared.Group.the-variants.{First, Second, Third, Trailer}
 use Rattle.layout.specs.Layout.{sectorsOf, blocksIn, blocksOf, hasSector, hasBlock, sectorOf, trailerOf, isTrailer, groupAt, groupOf}
 

@@ -1,12 +1,12 @@
 -- The blocks' invariant: what is put so far, with the lines of the blocks still ahead, are the lines of all.
 -- Assumes nothing.
 use mathlib.Core.Path.{_≡_, refl, sym, _∙_, ap}
-use mathlib.Core.List.{List, [], _∷_, _++_, append-assoc, append-nil}
+use mathlib.Core.List.{List, [], _++_, append-assoc, append-nil}
 use Prim.Native.Nat.{ℕ, suc, _+_, _*_, _-_, _<_, _≤_}
 use native.Mathlib.Omega.{arith}
 use native.Mathlib.Nat.{sub-zero}
 use lib.ListN.{length}
-use Rattle.play.specs.Text.{putOf, Put}
+use Rattle.play.specs.Text.{Put}
 use Rattle.play.specs.Printout.{changeLine, changedFrom}
 use Rattle.play.proofs.Put.{put-nothing, put-length, then}
 

@@ -11,7 +11,7 @@ use Rattle.session.specs.Session.{freshOf}
 use Rattle.session.specs.declared.Session.{Session}
 use Rattle.card.specs.declared.Answer.{Answer}
 use Rattle.script.specs.Script.{Reading, lawful, refused, numberOf, frameAt, nextAt, before, eventsFrom}
-use Rattle.play.specs.Text.{putOf, Put}
+use Rattle.play.specs.Text.{Put}
 use Rattle.play.specs.Run.{eventAnswer, eventImage, answersOf, sessionAfter, runImage, eventsIn}
 use Rattle.play.specs.Printout.{eventLines}
 use Rattle.play.specs.Results.{widthOf, resultsOf, keptOne, keptOf}

@@ -8,8 +8,8 @@ use native.Mathlib.Omega.{arith}
 use native.Mathlib.Nat.{add-zero}
 use native.Mathlib.Numerals.{add-one}
 use lib.Dec.{ltb}
-use lib.ListN.{length, take, drop, set, getD, length-append, length-take, length-drop, take-append-drop}
-use lib.Seq.{take-at, drop-at, length-take-le, drop-append-add, drop-drop, set-split, take-suc}
+use lib.ListN.{length, take, drop, set, getD, length-append, length-drop, take-append-drop}
+use lib.Seq.{take-at, length-take-le, drop-append-add, drop-drop, set-split, take-suc}
 use Rattle.play.specs.Text.{putOf, Put, digit, decimalOf, hexDigit, hexOf}
 
 module _ (out : List ℕ) (at : ℕ) where

@@ -1,14 +1,14 @@
 -- A lawful script as a whole, and its printout in three parts.
 -- Assumes nothing.
 use mathlib.Core.Path.{_≡_, refl, sym, _∙_, ap}
-use mathlib.Core.Bool.{Bool, true, false, cond, false≢true}
-use mathlib.Core.List.{List, [], _∷_, _++_}
-use Prim.Native.Nat.{ℕ, _+_, _*_, _<_, _≤_}
+use mathlib.Core.Bool.{Bool, true, false, false≢true}
+use mathlib.Core.List.{List}
+use Prim.Native.Nat.{ℕ, _+_, _*_, _≤_}
 use native.Mathlib.Omega.{arith}
-use lib.Dec.{eqb, ltb, leb}
+use lib.Dec.{eqb, ltb}
 use lib.ListN.{length, take, drop, length-drop}
 use lib.Seq.{length-take-le, take-all}
-use borrow.Author.Tests.{ltb-true, ltb-false, eqb-true, eqb-false, le-leb}
+use borrow.Author.Tests.{ltb-true, ltb-false, eqb-true, le-leb}
 use Rattle.layout.specs.Layout.{sectorsOf, blocksIn, blocksOf}
 use Rattle.session.specs.Session.{freshOf}
 use Rattle.script.specs.Script.{Reading, lawful, refused, numberOf, imageSize, imageOf, eventCount, eventsStart, eventsFrom, readingOf}

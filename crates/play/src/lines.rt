@@ -1,6 +1,5 @@
 // The lines of the printout, each put into the buffer from a place on.
-ghost use mathlib.Core.Path.{_≡_};
-ghost use Prim.Native.Nat.{_+_, _≤_, _<_};
+ghost use Prim.Native.Nat.{_+_, _≤_};
 ghost use lib.ListN.{length};
 ghost use Rattle.play.specs.Text.{Put};
 ghost use Rattle.play.specs.Printout.{refusalLine, headerLine, markOf, eventLine, blockLine};

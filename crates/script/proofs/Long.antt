@@ -2,15 +2,15 @@
 -- Assumes nothing.
 use mathlib.Core.Path.{_≡_, refl, sym, _∙_, ap}
 use mathlib.Core.Bool.{Bool, true, false, cond}
-use mathlib.Core.List.{List, [], _∷_}
+use mathlib.Core.List.{List}
 use Prim.Native.Nat.{ℕ, zero, suc, _+_, _*_, _<_, _≤_}
 use native.Mathlib.Omega.{arith}
-use lib.Dec.{ltb, leb, eqb}
+use lib.Dec.{ltb, eqb}
 use lib.ListN.{length, getD, take}
 use lib.Seq.{getD-take, length-take-le, take-all}
-use borrow.Author.Tests.{ltb-true, ltb-false, eqb-true, eqb-false, lt-ltb, le-ltb}
+use borrow.Author.Tests.{ltb-true, ltb-false, eqb-true, lt-ltb, le-ltb}
 use Rattle.layout.specs.Layout.{sectorsOf}
-use Rattle.script.specs.Script.{Reading, lawful, refused, countAt, imageSize, eventCount, eventsStart, frameAt, nextAt, before, eventsFrom, readingOf}
+use Rattle.script.specs.Script.{Reading, refused, countAt, imageSize, eventCount, eventsStart, nextAt, before, eventsFrom, readingOf}
 
 -- two scripts, each longer than a lawful one, that begin alike
 module _ (s t : List ℕ) (ls : 23100 < length s) (lt : 23100 < length t) (alike : (i : ℕ) → i < 23101 → getD s i 0 ≡ getD t i 0) where

@@ -1,7 +1,7 @@
 // The script format: an image and the events to play on it. It is judged as a whole before anything is played.
 ghost use mathlib.Core.Path.{_≡_};
-ghost use Prim.Native.Nat.{_<_, _≤_};
-ghost use lib.ListN.{length, getD};
+ghost use Prim.Native.Nat.{_<_};
+ghost use lib.ListN.{getD};
 ghost use Rattle.script.specs.Script.{numberOf, countAt, imageSize, imageOf, eventCount, eventsStart, frameAt, nextAt, eventsFrom, readingOf};
 
 // A byte of the script; 0 past its end.

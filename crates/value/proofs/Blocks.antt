@@ -1,20 +1,20 @@
 -- Value blocks there and back.
 -- Assumes nothing.
 use mathlib.Core.Path.{_≡_, refl, sym, _∙_, ap, ap₂}
-use mathlib.Core.Bool.{Bool, true, false, _&&_, cond}
+use mathlib.Core.Bool.{Bool, true, false, _&&_}
 use mathlib.Core.List.{List, [], _∷_}
 use Prim.Native.Nat.{ℕ, _+_, _*_, _/_, _%_, _<_}
 use native.Mathlib.Omega.{arith}
 use lib.Dec.{eqb}
 use lib.IntN.{ℤ}
-use lib.ListN.{getD, length}
+use lib.ListN.{length}
 use lib.Pow.{shr-shr}
 use mir.ValLaws.{ofZ-toZ}
 use mir.Syntax.{w32}
 use borrow.Author.Tests.{eq-eqb, eqb-true}
 use Rattle.value.specs.declared.block.Decoded.{Decoded}
 use Rattle.value.specs.declared.block.Decoded.the-variants.{Value, NoValue}
-use Rattle.value.specs.declared.sum.Total.the-variants.{Fits, Outside}
+use Rattle.value.specs.declared.sum.Total.the-variants.{Fits}
 use Rattle.value.specs.Whole.{signed, bits}
 use Rattle.value.specs.Block.{encodeOf, decodeOf, agreeing, bitsIn, addressIn, same}
 use Rattle.value.specs.Sum.{totalOf}

@@ -1,11 +1,10 @@
 -- Differences of two naturals: they carry a sum of whole numbers over to numbers that `omega` reads.
 -- Assumes nothing.
 use mathlib.Core.Path.{_≡_, refl, sym, _∙_, ap}
-use Prim.Native.Nat.{ℕ, zero, suc, _+_, _-_, _<_, _≤_}
+use Prim.Native.Nat.{ℕ, zero, suc, _+_, _-_}
 use native.Mathlib.Omega.{arith}
-use native.Mathlib.Nat.{add-zero}
-use lib.IntN.{ℤ, pos, negsuc, negℤ, _+ℤ_, _-ℤ_, subℕ, +ℤ-assoc, +ℤ-comm, negℤ-+ℤ, negℤ-negℤ, pos-+ℤ-pos}
-use borrow.Author.Tests.{lt-ltb, le-ltb}
+use lib.IntN.{ℤ, pos, negℤ, _+ℤ_, _-ℤ_, subℕ, +ℤ-assoc, +ℤ-comm, negℤ-+ℤ, negℤ-negℤ}
+use borrow.Author.Tests.{le-ltb}
 
 -- a − b, of two naturals, is the difference of the two as integers
 pub sub-is : (a b : ℕ) → subℕ a b ≡ pos a -ℤ pos b

@@ -10,7 +10,7 @@ use lib.ListN.{getD, length}
 use borrow.Author.Tests.{eq-eqb, eqb-true}
 use Rattle.value.specs.Whole.{signed}
 use Rattle.value.specs.Block.{encodeOf, agreeing, same}
-use Rattle.value.proofs.Blocks.{bits-signed, four-back, same-refl, same-eq}
+use Rattle.value.proofs.Blocks.{bits-signed, same-refl, same-eq}
 
 -- a list of n, element by element
 abbrev pub elements : ℕ → (ℕ → ℕ) → List ℕ

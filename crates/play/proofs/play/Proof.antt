@@ -1,6 +1,5 @@
 -- A refused script prints its one line, a lawful one is run.
 use mathlib.Core.Path.{refl, _∙_, sym}
-use native.Mathlib.Omega.{arith}
 use Rattle.play.proofs.Whole.{refusal-printed, space-fits, finished}
 use borrow.Author.Needs.{needs}
 use Rattle.play.proofs.play.Statement.{statement}

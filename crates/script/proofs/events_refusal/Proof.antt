@@ -1,6 +1,5 @@
 -- The loop's invariant: what is left to read gives the number that the whole gives. The measure is the events left.
 use mathlib.Core.Path.{_≡_, refl, _∙_}
-use native.Mathlib.Omega.{arith}
 use Rattle.script.specs.Script.{numberOf, eventsFrom}
 use Rattle.script.proofs.Ways.{ends-soon, too-long, cut-short, goes-on, something-left, all-read}
 use borrow.Author.Needs.{needs}

@@ -1,6 +1,6 @@
 -- The shared checks stop the deed, or it goes on to its own.
 use mathlib.Core.Path.{_∙_}
-use Rattle.frame.specs.declared.Deed.the-variants.{Read, Write, Store, Begin, Apply, Transfer}
+use Rattle.frame.specs.declared.Deed.the-variants.{Read, Write, Store, Transfer}
 use Rattle.judge.specs.First.{first, ruled}
 use Rattle.judge.specs.Judge.{doneOf}
 use Rattle.judge.proofs.Lists.{stopped, passed}

@@ -1,5 +1,4 @@
 -- The form decides.
-use native.Mathlib.Omega.{arith}
 use borrow.Author.Needs.{needs}
 use Rattle.play.proofs.events.keep.Statement.{statement}
 use Rattle.play.proofs.events.keep.Tie as tie
