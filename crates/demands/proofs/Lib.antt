@@ -14,3 +14,6 @@ pub mod OneJudge
 pub mod OneCard
 pub mod OneScript
 pub mod OnePlay
+pub mod OneRecord
+pub mod OneBoard
+pub mod OneEdge

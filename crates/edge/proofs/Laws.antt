@@ -1,0 +1,60 @@
+-- What a frame gets for the record of a session, and for twelve bytes that are none.
+-- Assumes nothing.
+use mathlib.Core.Path.{_≡_, refl, ap}
+use mathlib.Core.Bool.{Bool, true, false, cond}
+use mathlib.Core.List.{List}
+use Prim.Native.Nat.{ℕ, _<_}
+use Rattle.session.specs.Session.{freshOf, coherentOf}
+use Rattle.session.specs.declared.Session.{Session}
+use Rattle.judge.specs.Checks.{noCard, incoherent, frameChecks}
+use Rattle.judge.specs.First.{first, ruled}
+use Rattle.judge.specs.Judge.{commandedOf, judgeOf}
+use Rattle.judge.specs.declared.checks.Verdict.the-variants.{Refuse}
+use Rattle.frame.specs.Command.{commandOf}
+use Rattle.judge.specs.declared.Act.the-variants.{Refused}
+use Rattle.card.specs.Trailer.{zeros}
+use Rattle.card.specs.Effects.{numberOf, signOf, refusedSign, replyOf, sessionOf, imageOf}
+use Rattle.card.specs.Step.{answered, answerOf, imageAfter}
+use Rattle.card.specs.declared.Answer.{Answer}
+use Rattle.card.specs.declared.Sign.the-variants.{Nothing}
+use Rattle.record.specs.Record.{valueBits, recordOf, isRecord, strayOf}
+use Rattle.record.proofs.Laws.{reads-back, no-record}
+use Rattle.edge.specs.Edge.{frameAnswer, frameImage}
+
+-- a session loses nothing as a record
+pub crosses : (image : List ℕ) (s : Session) (frame : List ℕ) → valueBits (s .register) < 4294967296
+    → (frameAnswer image (recordOf s) frame ≡ answerOf image s frame) × (frameImage image (recordOf s) frame ≡ imageAfter image s frame)
+crosses image s frame fits =
+    (ap (λ (x : Session). answerOf image x frame) (reads-back s fits), ap (λ (x : Session). imageAfter image x frame) (reads-back s fits))
+
+-- 11 where the image is none, else 12
+abbrev pub strayNumber : List ℕ → ℕ
+strayNumber image = cond (noCard image) 11 12
+
+-- nothing on the air, zeros, the fresh session
+abbrev pub silentRefusal : ℕ → Answer
+silentRefusal n = record { number = n; sign = Nothing; reply = zeros; session = freshOf }
+
+-- no frame gets past 11 and 12 with the session that stands for such bytes
+stray-judged : (image frame : List ℕ) → judgeOf image strayOf frame ≡ Refused (strayNumber image)
+unfolding judgeOf frameChecks first ruled incoherent coherentOf
+stray-judged image frame = either (noCard image)
+  where
+    either : (b : Bool) → ruled (cond b (Refuse 11) (Refuse 12)) (commandedOf image strayOf (commandOf (strayOf .stage) frame) frame) ≡ Refused (cond b 11 12)
+    either true = refl
+    either false = refl
+
+silent : (image : List ℕ) (s : Session) → answered image s (Refused (strayNumber image)) ≡ silentRefusal (strayNumber image)
+unfolding answered numberOf signOf refusedSign replyOf sessionOf
+silent image s = either (noCard image)
+  where
+    either : (b : Bool) → record { number = cond b 11 12; sign = refusedSign (cond b 11 12); reply = zeros; session = freshOf } ≡ silentRefusal (cond b 11 12)
+    either true = refl
+    either false = refl
+
+-- twelve bytes that are no record are refused by 11 or 12, and nothing else is done
+pub bad-record : (image bytes frame : List ℕ) → isRecord bytes ≡ false
+    → (frameAnswer image bytes frame ≡ silentRefusal (strayNumber image)) × (frameImage image bytes frame ≡ image)
+unfolding answerOf imageAfter imageOf
+bad-record image bytes frame e =
+    rw (no-record bytes e, stray-judged image frame) (silent image strayOf, refl)

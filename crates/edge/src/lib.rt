@@ -1,0 +1,77 @@
+// The boundary to C and Rust: numbers, lent bytes, and the session as its record of twelve bytes.
+ghost use mathlib.Core.Path.{_≡_};
+ghost use Prim.Native.Nat.{_<_};
+ghost use lib.ListN.{length};
+ghost use Rattle.card.specs.Step.{resetOf};
+ghost use Rattle.record.specs.Record.{recordOf};
+ghost use Rattle.play.specs.Text.{putOf};
+ghost use Rattle.play.specs.Printout.{printoutOf};
+ghost use Rattle.edge.specs.Edge.{packed, frameAnswer, frameImage, versionOf};
+use card::Answer;
+
+const VERSION: u32 = 1;
+
+fn wide(b: u8) -> u32
+    ensures { λ r. ⌜ (r ≡ b) × (r < 256) ⌝ }
+{
+    b as u32
+}
+
+// An answer handed over: its session as a record, its reply, and its number and sign in one.
+fn give(a: Answer, session: &mut [u8; 12], reply: &mut [u8; 16]) -> u32
+    ensures { λ r. ⌜ r ≡ packed a ⌝ }
+    ensures { λ _. ⌜ now (session .exit) ≡ recordOf (a .session) ⌝ }
+    ensures { λ _. ⌜ now (reply .exit) ≡ a .reply ⌝ }
+{
+    let next = a.session;
+    let bytes = a.reply;
+    let sign = a.sign;
+    let number = a.number;
+    *session = record::encode(next);
+    *reply = bytes;
+    wide(number) + 256 * wide(card::sign_code(sign))
+}
+
+// One frame. The session's record is replaced by the next one, and the reply is filled.
+#[no_mangle]
+pub extern "C" fn tirlwheel_frame(
+    image: &mut [u8],
+    session: &mut [u8; 12],
+    frame: &[u8],
+    reply: &mut [u8; 16],
+) -> u32
+    ensures { λ r. ⌜ r ≡ packed (frameAnswer (now (image .entry)) (now (session .entry)) (now (frame .entry))) ⌝ }
+    ensures { λ _. ⌜ now (session .exit) ≡ recordOf (frameAnswer (now (image .entry)) (now (session .entry)) (now (frame .entry)) .session) ⌝ }
+    ensures { λ _. ⌜ now (reply .exit) ≡ frameAnswer (now (image .entry)) (now (session .entry)) (now (frame .entry)) .reply ⌝ }
+    ensures { λ _. ⌜ now (image .exit) ≡ frameImage (now (image .entry)) (now (session .entry)) (now (frame .entry)) ⌝ }
+{
+    let a = card::step(image, record::decode(*session), frame);
+    give(a, session, reply)
+}
+
+// The field reset, for any twelve bytes.
+#[no_mangle]
+pub extern "C" fn tirlwheel_field_reset(session: &mut [u8; 12], reply: &mut [u8; 16]) -> u32
+    ensures { λ r. ⌜ r ≡ packed resetOf ⌝ }
+    ensures { λ _. ⌜ now (session .exit) ≡ recordOf (resetOf .session) ⌝ }
+    ensures { λ _. ⌜ now (reply .exit) ≡ resetOf .reply ⌝ }
+{
+    give(card::field_reset(), session, reply)
+}
+
+// The printout of any script, from the start of the buffer, and how long it is.
+#[no_mangle]
+pub extern "C" fn tirlwheel_play(script: &[u8], printout: &mut [u8; 65536]) -> usize
+    ensures { λ r. ⌜ r ≡ length (printoutOf (now (script .entry))) ⌝ }
+    ensures { λ _. ⌜ now (printout .exit) ≡ putOf (now (printout .entry)) 0 (printoutOf (now (script .entry))) ⌝ }
+{
+    play::play(script, printout)
+}
+
+// Which boundary this is.
+#[no_mangle]
+pub extern "C" fn tirlwheel_version() -> u32
+    ensures { λ r. ⌜ r ≡ versionOf ⌝ }
+{
+    VERSION
+}

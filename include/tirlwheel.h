@@ -1,0 +1,82 @@
+/* Tirlwheel: a MIFARE Classic card in software. Link with libedge.a, which `rt staticlib edge` builds (x86-64 Linux).
+ *
+ * The library opens nothing, allocates nothing and keeps nothing between calls: image, session and reply are the caller's.
+ * Each call's result is proved for every input. What no proof covers is the caller's part: each pointer is good for the length
+ * that goes with it, also where that is 0; no pointer is null; and what one call is given does not overlap.
+ */
+#ifndef TIRLWHEEL_H
+#define TIRLWHEEL_H
+
+#include <stddef.h>
+#include <stdint.h>
+
+#ifdef __cplusplus
+extern "C" {
+#endif
+
+#define TIRLWHEEL_SESSION 12     /* bytes of a session's record */
+#define TIRLWHEEL_REPLY 16       /* bytes of a reply */
+#define TIRLWHEEL_PRINTOUT 65536 /* bytes of the player's buffer */
+
+/* A result holds the number in its low byte and the sign in the next. */
+#define TIRLWHEEL_NUMBER(result) ((result) & 0xFFu)
+#define TIRLWHEEL_SIGN(result) ((result) >> 8)
+
+/* What went on the air. */
+#define TIRLWHEEL_ACK 0u
+#define TIRLWHEEL_NAK 1u
+#define TIRLWHEEL_DATA 2u /* the sixteen bytes of a Read */
+#define TIRLWHEEL_NOTHING 3u
+
+/* The numbers. 0 is accepted. Every other is a refusal: it changes no byte of the image, clears the reply and leaves the fresh
+ * session, so the authentication, an awaited second frame and the register are gone. The first that applies is given, in this order:
+ *
+ *   11  the image is not 1,024 or 4,096 bytes long                                                          nothing on the air
+ *   12  the session names a sector the image lacks, or has a stage or a full register with nobody authenticated,
+ *       or the twelve bytes are no session's record                                                         nothing
+ *    1  unknown code, wrong length, empty frame, or a Halt whose second byte is not 00h                     nothing
+ *    2  no such block                                                                                       NAK
+ *    3  the block's sector is not the authenticated one, or none is                                         NAK
+ *    5  the sector is blocked: its access bits are malformed                                                NAK
+ *    4  the key differs (Authenticate only)                                                                 nothing
+ *    6  Write, value operation or Transfer on block 0; value operation or Transfer on a trailer             NAK
+ *    7  the key has not the right                                                                           NAK
+ *    8  the source is not a value block                                                                     NAK
+ *    9  Transfer with an empty register                                                                     NAK
+ *   10  the result of a value operation is outside -2,147,483,648 to 2,147,483,647                          NAK
+ */
+
+/* The record of a session. Twelve zeros are the fresh one: start with them.
+ *
+ *   byte 0       who is authenticated: 0 nobody, 1 key A, 2 key B
+ *   byte 1       for which sector; 0 for nobody
+ *   byte 2       which second frame is awaited: 0 none, 1 a Write's, 2 an increment's, 3 a decrement's, 4 a restore's
+ *   byte 3       for which block; 0 for none
+ *   byte 4       the register: 0 empty, 1 full
+ *   byte 5       its address byte; 0 where it is empty
+ *   bytes 6, 7   0
+ *   bytes 8..11  its value, low byte first; 0 where it is empty
+ */
+
+/* One frame, as a reader sends it, without checksum. `session` is the record before the frame, and afterwards the one to hand to
+ * the next call. `image` is changed by an accepted Write or Transfer only, in that block's sixteen bytes. `reply` is the block
+ * for an accepted Read and sixteen zeros for every other answer. */
+uint32_t tirlwheel_frame(uint8_t *image, size_t image_len, uint8_t session[12], const uint8_t *frame, size_t frame_len,
+                         uint8_t reply[16]);
+
+/* The reader's field went away and came back. Always accepted, whatever the twelve bytes were: number 0, nothing on the air, the
+ * fresh session, sixteen zeros. */
+uint32_t tirlwheel_field_reset(uint8_t session[12], uint8_t reply[16]);
+
+/* Plays a script (an image and its events, in the format that the README shows) and writes the printout from the start of the
+ * buffer; the rest of the buffer stays as it was. Gives the printout's length. A script that is refused (20 to 24) prints one line. */
+size_t tirlwheel_play(const uint8_t *script, size_t script_len, uint8_t printout[65536]);
+
+/* Which boundary this is: 1. A change that a caller would notice counts it up. */
+uint32_t tirlwheel_version(void);
+
+#ifdef __cplusplus
+}
+#endif
+
+#endif

@@ -1,0 +1,107 @@
+//! A MIFARE Classic card in software: safe calls of the proved library.
+//!
+//! The card keeps nothing. The caller owns the image and one [`Session`], and lends both to each call.
+//! `include/tirlwheel.h` says what each number means.
+#![no_std]
+
+mod ffi {
+    // A slice is a pointer and a length, in two arguments.
+    extern "C" {
+        pub fn tirlwheel_frame(
+            image: *mut u8,
+            image_len: usize,
+            session: *mut [u8; 12],
+            frame: *const u8,
+            frame_len: usize,
+            reply: *mut [u8; 16],
+        ) -> u32;
+        pub fn tirlwheel_field_reset(session: *mut [u8; 12], reply: *mut [u8; 16]) -> u32;
+        pub fn tirlwheel_play(
+            script: *const u8,
+            script_len: usize,
+            printout: *mut [u8; 65536],
+        ) -> usize;
+        pub fn tirlwheel_version() -> u32;
+    }
+}
+
+/// The session of a reader, as its record of twelve bytes.
+#[derive(Clone, Copy, Debug, Default, PartialEq, Eq)]
+pub struct Session(pub [u8; 12]);
+
+/// What went on the air.
+#[derive(Clone, Copy, Debug, PartialEq, Eq)]
+pub enum Sign {
+    Ack,
+    Nak,
+    Data,
+    Nothing,
+}
+
+/// The number (0 is accepted), the sign, and the sixteen bytes of a Read or zeros.
+#[derive(Clone, Copy, Debug, PartialEq, Eq)]
+pub struct Answer {
+    pub number: u8,
+    pub sign: Sign,
+    pub reply: [u8; 16],
+}
+
+/// Room for any printout.
+pub type Printout = [u8; 65536];
+
+fn answer(result: u32, reply: [u8; 16]) -> Answer {
+    let sign = match result >> 8 {
+        0 => Sign::Ack,
+        1 => Sign::Nak,
+        2 => Sign::Data,
+        _ => Sign::Nothing,
+    };
+    Answer {
+        number: result as u8,
+        sign,
+        reply,
+    }
+}
+
+impl Session {
+    /// Nobody authenticated, no second frame awaited, the register empty.
+    pub const FRESH: Session = Session([0; 12]);
+
+    /// One frame. The session and the image are afterwards those that the next frame meets.
+    pub fn frame(&mut self, image: &mut [u8], frame: &[u8]) -> Answer {
+        let mut reply = [0; 16];
+        // SAFETY: each pointer comes from a reference or a slice of that length; exclusive references do not overlap anything.
+        let result = unsafe {
+            ffi::tirlwheel_frame(
+                image.as_mut_ptr(),
+                image.len(),
+                &mut self.0,
+                frame.as_ptr(),
+                frame.len(),
+                &mut reply,
+            )
+        };
+        answer(result, reply)
+    }
+
+    /// The reader's field went away and came back.
+    pub fn field_reset(&mut self) -> Answer {
+        let mut reply = [0; 16];
+        // SAFETY: as for a frame.
+        let result = unsafe { ffi::tirlwheel_field_reset(&mut self.0, &mut reply) };
+        answer(result, reply)
+    }
+}
+
+/// The printout of a script, in the buffer that is lent for it.
+pub fn play<'a>(script: &[u8], printout: &'a mut Printout) -> &'a [u8] {
+    // SAFETY: as for a frame.
+    let length = unsafe { ffi::tirlwheel_play(script.as_ptr(), script.len(), printout) };
+    &printout[..length]
+}
+
+/// Which boundary this is.
+pub fn version() -> u32 {
+    // SAFETY: it takes nothing.
+    unsafe { ffi::tirlwheel_version() }
+}
