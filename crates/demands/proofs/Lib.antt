@@ -13,6 +13,7 @@ pub mod OneFrame
 pub mod OneJudge
 pub mod OneCard
 pub mod OneScript
+pub mod OneReader
 pub mod OnePlay
 pub mod OneRecord
 pub mod OneBoard

@@ -11,6 +11,9 @@ use Rattle.session.specs.Session.{freshOf}
 use Rattle.session.specs.declared.Session.{Session}
 use Rattle.card.specs.declared.Answer.{Answer}
 use Rattle.script.specs.Script.{Reading, lawful, refused, numberOf, frameAt, nextAt, before, eventsFrom}
+use Rattle.reader.specs.Reader.{stepAt, bytesOf}
+use Rattle.reader.specs.declared.Step.{Step}
+use Rattle.reader.proofs.Laws.{lawful-event}
 use Rattle.play.specs.Text.{Put}
 use Rattle.play.specs.Run.{eventAnswer, eventImage, answersOf, sessionAfter, runImage, eventsIn}
 use Rattle.play.specs.Printout.{eventLines}
@@ -155,6 +158,14 @@ module _ (form : Form) (script : List ℕ) (image₀ out₀ : List ℕ) (at coun
     pub answer-room : 0 < left → to + widthOf form ≤ length out
     answer-room h =
         rw (g .same-out) (within (to + widthOf form) (at + widthOf form * count) (length out₀) (room-here form to left (at + widthOf form * count) h (g .room)) (g .fits))
+
+    -- what the walk found here is the event that is due
+    pub due : (here : Step) (frame : List ℕ) → 0 < left → here ≡ stepAt script place → frame ≡ bytesOf script (here .found) → frame ≡ frameAt script place
+    unfolding numberOf
+    due here frame h e f =
+        let more : left ≡ suc (left - 1) = omega arith in
+        let fine : numberOf (eventsFrom script (suc (left - 1)) place) ≡ 0 = ap (λ (n : ℕ). numberOf (eventsFrom script n place)) (sym more) ∙ ap numberOf (g .ahead) in
+        f ∙ ap (λ (x : Step). bytesOf script (x .found)) e ∙ lawful-event script (left - 1) place fine
 
     pub turn : (a : Answer) (frame image′ out′ : List ℕ) (place′ to′ : ℕ) → 0 < left → frame ≡ frameAt script place → a ≡ eventAnswer image s frame
         → image′ ≡ eventImage image s frame → length image′ ≡ length image → Put out to (keptOne form i a) out′ to′ → to′ ≤ to + widthOf form

@@ -64,11 +64,13 @@ pub(crate) fn keep_events(
     let mut i: usize = 1;
     let mut left = count;
     while 0 < left {
-        let frame = script::frame_at(script, place);
+        let here = reader::event_from(script, place);
+        let found = here.found;
+        let frame = reader::bytes_of(script, found);
         let a = event(image, session, frame);
         end = keep(form, out, end, i, a);
         session = a.session;
-        place = script::next_at(script, place);
+        place = here.next;
         i += 1;
         left -= 1;
     }

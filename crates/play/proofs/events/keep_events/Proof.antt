@@ -1,6 +1,7 @@
 -- The loop's invariant is `Going`; the measure is the events left.
+use mathlib.Core.Path.{ap}
 use native.Mathlib.Omega.{arith}
-use Rattle.play.proofs.Going.{Going, begin, answer-room, turn, end-kept, end-session, end-image, end-place}
+use Rattle.play.proofs.Going.{Going, begin, answer-room, due, turn, end-kept, end-session, end-image, end-place}
 use borrow.Author.Needs.{needs}
 use Rattle.play.proofs.events.keep_events.Statement.{statement}
 use Rattle.play.proofs.events.keep_events.Tie as tie
@@ -17,17 +18,17 @@ fresh-requires c κs = search needs
 loop-holds : tie.Need-loop-holds Inv-loop μ-loop
 loop-holds c = let p = c .before .before .before .before .pre in begin _ _ _ _ _ _ _ _ (c .fresh .ensures) (p .0) (p .1) (p .2)
 
-frame-at-requires : tie.Need-frame-at-requires Inv-loop μ-loop
-frame-at-requires c κs = search needs
+event-from-requires : tie.Need-event-from-requires Inv-loop μ-loop
+event-from-requires c κs = search needs
+
+bytes-of-requires : tie.Need-bytes-of-requires Inv-loop μ-loop
+bytes-of-requires c κs = search needs
 
 event-requires : tie.Need-event-requires Inv-loop μ-loop
 event-requires c κs = search needs
 
 keep-requires : tie.Need-keep-requires Inv-loop μ-loop
-keep-requires c κs = answer-room _ _ _ _ _ _ _ (c .before .before .before .before .before .before .before .loop .inv) (c .before .before .before .before .before .before .loop-test .taken)
-
-next-at-requires : tie.Need-next-at-requires Inv-loop μ-loop
-next-at-requires c κs = search needs
+keep-requires c κs = answer-room _ _ _ _ _ _ _ (c .before .before .before .before .before .before .before .before .loop .inv) (c .before .before .before .before .before .before .before .loop-test .taken)
 
 add-i : tie.Need-add-i Inv-loop μ-loop
 add-i c = omega (arith, c .before .before .before .before .before .before .before .before .before .before .before .before .loop .inv .few)
@@ -39,7 +40,10 @@ loop-less : tie.Need-loop-less Inv-loop μ-loop
 loop-less c = search needs
 
 loop-again : tie.Need-loop-again Inv-loop μ-loop
-loop-again c = turn _ _ _ _ _ _ _ (c .before .before .before .before .before .before .before .before .before .before .before .before .loop .inv) _ _ _ _ _ _ (c .before .before .before .before .before .before .before .before .before .before .before .loop-test .taken) (c .before .before .before .before .before .before .before .before .before .before .frame-at .ensures) (c .before .before .before .before .before .before .before .before .event .ensures .0) (c .before .before .before .before .before .before .before .before .event .ensures .1) (c .before .before .before .before .before .before .before .before .event .kept .0) (c .before .before .before .before .keep .ensures .0) (c .before .before .before .before .keep .ensures .1) (c .next-at .ensures)
+loop-again c = let g = c .before .before .before .before .before .before .before .before .before .before .before .before .loop .inv in
+    let h = c .before .before .before .before .before .before .before .before .before .before .before .loop-test .taken in
+    let f = due _ _ _ _ _ _ _ g _ _ h (c .before .before .before .before .before .before .before .before .before .before .event-from .ensures) (c .before .before .before .before .before .before .before .before .before .bytes-of .ensures) in
+    turn _ _ _ _ _ _ _ g _ _ _ _ _ _ h f (c .before .before .before .before .before .before .before .event .ensures .0) (c .before .before .before .before .before .before .before .event .ensures .1) (c .before .before .before .before .before .before .before .event .kept .0) (c .before .before .before .keep .ensures .0) (c .before .before .before .keep .ensures .1) (ap (λ x. x .next) (c .before .before .before .before .before .before .before .before .before .before .event-from .ensures))
 
 same-length : tie.Need-same-length Inv-loop μ-loop
 same-length c = c .before .loop .inv .same-image
@@ -60,10 +64,10 @@ keep-events-spec =
     μ-loop
     fresh-requires
     loop-holds
-    frame-at-requires
+    event-from-requires
+    bytes-of-requires
     event-requires
     keep-requires
-    next-at-requires
     add-i
     sub-left
     loop-less
