@@ -1,6 +1,7 @@
-/* Tirlwheel: a MIFARE Classic card in software. Link with libedge.a, which `rt staticlib edge` builds (x86-64 Linux).
+/* Tirlwheel: a MIFARE Classic card in software. Link with libedge.a, which `rt staticlib edge` builds (x86-64 Linux), and for
+ * tirlwheel_play with libprintout.a, which `rt staticlib printout` builds.
  *
- * The library opens nothing, allocates nothing and keeps nothing between calls: image, session and reply are the caller's.
+ * The libraries open nothing, allocate nothing and keep nothing between calls: image, session and reply are the caller's.
  * Each call's result is proved for every input. What no proof covers is the caller's part: each pointer is good for the length
  * that goes with it, also where that is 0; no pointer is null; and what one call is given does not overlap.
  */

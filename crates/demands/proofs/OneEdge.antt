@@ -1,4 +1,4 @@
--- One result for each exported function of `edge`, on the contract that its source states: the number and every byte of what was lent.
+-- One result for each exported function of `edge` and `printout`, on the contract that its source states: the number and every byte of what was lent.
 -- Assumes nothing.
 use mathlib.Core.Path.{_≡_, sym, _∙_}
 use mathlib.Core.List.{List}
@@ -7,7 +7,7 @@ use base.Fml.{Lft}
 use denote.Ref.{RefT, at-last}
 use Rattle.edge.proofs.tirlwheel_frame.Reads as frame-contract
 use Rattle.edge.proofs.tirlwheel_field_reset.Reads as reset-contract
-use Rattle.edge.proofs.tirlwheel_play.Reads as play-contract
+use Rattle.printout.proofs.tirlwheel_play.Reads as play-contract
 use Rattle.edge.proofs.tirlwheel_version.Reads as version-contract
 use Rattle.demands.specs.One.{OneResult}
 use Rattle.demands.proofs.Exact.{exact}

@@ -1,11 +1,8 @@
 // The boundary to C and Rust: numbers, lent bytes, and the session as its record of twelve bytes.
 ghost use mathlib.Core.Path.{_≡_};
 ghost use Prim.Native.Nat.{_<_};
-ghost use lib.ListN.{length};
 ghost use Rattle.card.specs.Step.{resetOf};
 ghost use Rattle.record.specs.Record.{recordOf};
-ghost use Rattle.play.specs.Text.{putOf};
-ghost use Rattle.play.specs.Printout.{printoutOf};
 ghost use Rattle.edge.specs.Edge.{packed, frameAnswer, frameImage, versionOf};
 use card::Answer;
 
@@ -57,15 +54,6 @@ pub extern "C" fn tirlwheel_field_reset(session: &mut [u8; 12], reply: &mut [u8;
     ensures { λ _. ⌜ now (reply .exit) ≡ resetOf .reply ⌝ }
 {
     give(card::field_reset(), session, reply)
-}
-
-// The printout of any script, from the start of the buffer, and how long it is.
-#[no_mangle]
-pub extern "C" fn tirlwheel_play(script: &[u8], printout: &mut [u8; 65536]) -> usize
-    ensures { λ r. ⌜ r ≡ length (printoutOf (now (script .entry))) ⌝ }
-    ensures { λ _. ⌜ now (printout .exit) ≡ putOf (now (printout .entry)) 0 (printoutOf (now (script .entry))) ⌝ }
-{
-    play::play(script, printout)
 }
 
 // Which boundary this is.
