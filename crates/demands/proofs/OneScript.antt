@@ -9,7 +9,6 @@ use Rattle.script.proofs.image_size.Reads as image-size-contract
 use Rattle.script.proofs.image_of.Reads as image-of-contract
 use Rattle.script.proofs.event_count.Reads as event-count-contract
 use Rattle.script.proofs.events_start.Reads as events-start-contract
-use Rattle.script.proofs.frame_at.Reads as frame-at-contract
 use Rattle.script.proofs.next_at.Reads as next-at-contract
 use Rattle.script.proofs.refusal_of.Reads as refusal-of-contract
 use Rattle.demands.specs.One.{OneResult}
@@ -27,11 +26,6 @@ event-count κ script = exact
 
 pub events-start : (κ : Lft) (script : RefT (List ℕ)) → OneResult (λ r. events-start-contract.Post (κ, tt) (script, tt) r (script, tt))
 events-start κ script = exact
-
-pub frame-at : (κ : Lft) (script : RefT (List ℕ)) (at : ℕ) (r r′ : RefT (List ℕ))
-    → frame-at-contract.Post (κ, tt) (script, (at, tt)) r (script, (at, tt)) → frame-at-contract.Post (κ, tt) (script, (at, tt)) r′ (script, (at, tt))
-    → r .now ≡ r′ .now
-frame-at κ script at r r′ p q = p ∙ sym q
 
 pub next-at : (κ : Lft) (script : RefT (List ℕ)) (at : ℕ) → OneResult (λ r. next-at-contract.Post (κ, tt) (script, (at, tt)) r (script, (at, tt)))
 next-at κ script at = exact

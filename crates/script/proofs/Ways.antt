@@ -20,21 +20,6 @@ module _ (script : List ℕ) where
   image-short size e h = rw (lt-leb (2 + imageSize script) (length script) (omega arith))
 
 module _ (script : List ℕ) (at : ℕ) where
-  pub frame-past : length script ≤ at → [] ≡ frameAt script at
-  unfolding frameAt
-  frame-past h = rw (lt-leb (at + 1 + getD script at 0) (length script) (omega arith))
-
-  pub frame-short : (n : ℕ) → n ≡ getD script at 0 → length script < at + 1 + n → [] ≡ frameAt script at
-  unfolding frameAt
-  frame-short n e h = rw (lt-leb (at + 1 + getD script at 0) (length script) (omega arith))
-
-  pub frame-whole : (n : ℕ) (part : List ℕ) → n ≡ getD script at 0 → at + 1 + n ≤ length script
-      → part ≡ take (at + 1 + n - (at + 1)) (drop (at + 1) script) → part ≡ frameAt script at
-  unfolding frameAt
-  frame-whole n part e h p =
-      let l : at + 1 + n - (at + 1) ≡ n = omega arith in
-      p ∙ rw (le-leb (at + 1 + getD script at 0) (length script) (omega arith), l, e)
-
   pub next-in : (n : ℕ) → n ≡ getD script at 0 → at < length script → at + 1 + n ≡ nextAt script at
   unfolding nextAt
   next-in n e h = rw (lt-ltb at (length script) h, e)

@@ -2,7 +2,7 @@
 ghost use mathlib.Core.Path.{_≡_};
 ghost use Prim.Native.Nat.{_<_};
 ghost use lib.ListN.{getD};
-ghost use Rattle.script.specs.Script.{numberOf, countAt, imageSize, imageOf, eventCount, eventsStart, frameAt, nextAt, eventsFrom, readingOf};
+ghost use Rattle.script.specs.Script.{numberOf, countAt, imageSize, imageOf, eventCount, eventsStart, nextAt, eventsFrom, readingOf};
 
 // A byte of the script; 0 past its end.
 fn byte_at(script: &[u8], at: usize) -> usize
@@ -54,22 +54,7 @@ pub fn events_start(script: &[u8]) -> usize
     4 + image_size(script)
 }
 
-// The bytes of the event whose count stands at a place; none where they are not all there.
-pub fn frame_at(script: &[u8], at: usize) -> &[u8]
-    ensures { λ r. ⌜ now r ≡ frameAt (now (script .entry)) at ⌝ }
-{
-    if script.len() <= at {
-        return &script[..0];
-    }
-    let start = at + 1;
-    let end = start + byte_at(script, at);
-    if script.len() < end {
-        return &script[..0];
-    }
-    &script[start..end]
-}
-
-// Where the event after that one stands.
+// Where the event after the one at a place stands.
 pub fn next_at(script: &[u8], at: usize) -> usize
     ensures { λ r. ⌜ r ≡ nextAt (now (script .entry)) at ⌝ }
 {
