@@ -1,0 +1,84 @@
+//! The two cards under one set of calls, those of include/tirlwheel.h: the proved library, and the Rust card behind the same boundary.
+
+use crate::card::{self, Answer, Session, FRESH};
+use crate::layout::{is_image, BlockBytes};
+use crate::record::{of_session, to_session, Record};
+use crate::script;
+
+pub const PRINTOUT_BYTES: usize = 65536;
+
+pub type FrameCall = unsafe extern "C" fn(*mut u8, usize, *mut Record, *const u8, usize, *mut BlockBytes) -> u32;
+pub type FieldResetCall = unsafe extern "C" fn(*mut Record, *mut BlockBytes) -> u32;
+pub type PlayCall = unsafe extern "C" fn(*const u8, usize, *mut [u8; PRINTOUT_BYTES]) -> usize;
+
+extern "C" {
+    fn tirlwheel_frame(image: *mut u8, image_len: usize, session: *mut Record, frame: *const u8, frame_len: usize, reply: *mut BlockBytes) -> u32;
+    fn tirlwheel_field_reset(session: *mut Record, reply: *mut BlockBytes) -> u32;
+    fn tirlwheel_play(script: *const u8, script_len: usize, printout: *mut [u8; PRINTOUT_BYTES]) -> usize;
+}
+
+#[derive(Clone, Copy)]
+pub struct Card {
+    pub frame_call: FrameCall,
+    pub field_reset_call: FieldResetCall,
+    pub play_call: PlayCall,
+}
+
+pub const LIBRARY: Card = Card { frame_call: tirlwheel_frame, field_reset_call: tirlwheel_field_reset, play_call: tirlwheel_play };
+pub const RUST: Card = Card { frame_call: rust_frame, field_reset_call: rust_field_reset, play_call: rust_play };
+
+impl Card {
+    /// Number in the low byte of the result, sign in the next.
+    pub fn frame(&self, image: &mut [u8], session: &mut Record, frame: &[u8], reply: &mut BlockBytes) -> u32 {
+        // SAFETY: true lengths, and distinct borrows do not overlap.
+        unsafe { (self.frame_call)(image.as_mut_ptr(), image.len(), session, frame.as_ptr(), frame.len(), reply) }
+    }
+
+    pub fn field_reset(&self, session: &mut Record, reply: &mut BlockBytes) -> u32 {
+        // SAFETY: distinct borrows do not overlap.
+        unsafe { (self.field_reset_call)(session, reply) }
+    }
+
+    /// The length of the printout.
+    pub fn play(&self, script: &[u8], printout: &mut [u8; PRINTOUT_BYTES]) -> usize {
+        // SAFETY: true length, and distinct borrows do not overlap.
+        unsafe { (self.play_call)(script.as_ptr(), script.len(), printout) }
+    }
+}
+
+fn hand_over(answer: &Answer, session: &Session, record: &mut Record, reply: &mut BlockBytes) -> u32 {
+    *record = of_session(session);
+    *reply = answer.reply;
+    u32::from(answer.number) | (answer.sign as u32) << 8
+}
+
+unsafe extern "C" fn rust_frame(
+    image: *mut u8,
+    image_len: usize,
+    record: *mut Record,
+    frame: *const u8,
+    frame_len: usize,
+    reply: *mut BlockBytes,
+) -> u32 {
+    let image = std::slice::from_raw_parts_mut(image, image_len);
+    let frame = std::slice::from_raw_parts(frame, frame_len);
+    let mut session = FRESH;
+    let answer = match to_session(&*record) {
+        Some(held) => {
+            session = held;
+            card::frame(image, &mut session, frame)
+        }
+        None => card::refusal(if is_image(image) { 12 } else { 11 }),
+    };
+    hand_over(&answer, &session, &mut *record, &mut *reply)
+}
+
+unsafe extern "C" fn rust_field_reset(record: *mut Record, reply: *mut BlockBytes) -> u32 {
+    let mut session = FRESH;
+    let answer = card::field_reset(&mut session);
+    hand_over(&answer, &session, &mut *record, &mut *reply)
+}
+
+unsafe extern "C" fn rust_play(script: *const u8, script_len: usize, printout: *mut [u8; PRINTOUT_BYTES]) -> usize {
+    script::play(std::slice::from_raw_parts(script, script_len), &mut *printout)
+}

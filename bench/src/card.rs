@@ -1,0 +1,231 @@
+//! The card of paper 01 as an unverified engineer would write it, from the paper's text alone.
+
+use crate::layout::{bytes_of, bytes_of_mut, group_of, has_block, is_image, is_trailer, sector_of, sectors, trailer_of, BlockBytes, TRAILER_GROUP};
+use crate::rights::{has, AccessBits, Key, DATA, DECREMENT, INCREMENT, READ, TRAILER, WRITE};
+use crate::value::Value;
+
+#[derive(Clone, Copy, PartialEq, Eq, Debug)]
+pub enum Operation {
+    Increment,
+    Decrement,
+    Restore,
+}
+
+#[derive(Clone, Copy, PartialEq, Eq, Debug)]
+pub enum Stage {
+    None,
+    Write { block: u8 },
+    Value { operation: Operation, block: u8 },
+}
+
+#[derive(Clone, Copy, PartialEq, Eq, Debug)]
+pub struct Session {
+    pub authenticated: Option<(u8, Key)>,
+    pub stage: Stage,
+    pub register: Option<Value>,
+}
+
+pub const FRESH: Session = Session { authenticated: None, stage: Stage::None, register: None };
+
+#[derive(Clone, Copy, PartialEq, Eq, Debug)]
+pub enum Sign {
+    Ack,
+    Nak,
+    Data,
+    Nothing,
+}
+
+#[derive(Clone, Copy, PartialEq, Eq, Debug)]
+pub struct Answer {
+    pub number: u8,
+    pub sign: Sign,
+    pub reply: BlockBytes,
+}
+
+const NO_REPLY: BlockBytes = [0; 16];
+const ACK: Answer = Answer { number: 0, sign: Sign::Ack, reply: NO_REPLY };
+pub const SILENCE: Answer = Answer { number: 0, sign: Sign::Nothing, reply: NO_REPLY };
+
+pub fn refusal(number: u8) -> Answer {
+    let sign = if matches!(number, 1 | 4 | 11 | 12) { Sign::Nothing } else { Sign::Nak };
+    Answer { number, sign, reply: NO_REPLY }
+}
+
+/// An accepted frame's answer, or the number of its refusal.
+type Judged = Result<Answer, u8>;
+
+pub fn frame(image: &mut [u8], session: &mut Session, frame: &[u8]) -> Answer {
+    judge(image, session, frame).unwrap_or_else(|number| {
+        *session = FRESH;
+        refusal(number)
+    })
+}
+
+pub fn field_reset(session: &mut Session) -> Answer {
+    *session = FRESH;
+    SILENCE
+}
+
+fn judge(image: &mut [u8], session: &mut Session, frame: &[u8]) -> Judged {
+    if !is_image(image) {
+        return Err(11);
+    }
+    if !is_coherent(image, session) {
+        return Err(12);
+    }
+    match session.stage {
+        Stage::None => command(image, session, frame),
+        Stage::Write { block } => write_data(image, session, block, frame),
+        Stage::Value { operation, block } => operand(image, session, operation, block, frame),
+    }
+}
+
+fn is_coherent(image: &[u8], session: &Session) -> bool {
+    match session.authenticated {
+        Some((sector, _)) => sector < sectors(image),
+        None => session.stage == Stage::None && session.register.is_none(),
+    }
+}
+
+fn command(image: &mut [u8], session: &mut Session, frame: &[u8]) -> Judged {
+    match *frame {
+        [0x60, block, ref key @ ..] if key.len() == 6 => authenticate(image, session, block, Key::A, key),
+        [0x61, block, ref key @ ..] if key.len() == 6 => authenticate(image, session, block, Key::B, key),
+        [0x30, block] => read(image, session, block),
+        [0xA0, block] => write(image, session, block),
+        [0xC1, block] => value_operation(image, session, Operation::Increment, block),
+        [0xC0, block] => value_operation(image, session, Operation::Decrement, block),
+        [0xC2, block] => value_operation(image, session, Operation::Restore, block),
+        [0xB0, block] => transfer(image, session, block),
+        [0x50, 0x00] => {
+            *session = FRESH;
+            Ok(SILENCE)
+        }
+        _ => Err(1),
+    }
+}
+
+fn authenticate(image: &[u8], session: &mut Session, block: u8, key: Key, sent: &[u8]) -> Judged {
+    if !has_block(image, block) {
+        return Err(2);
+    }
+    let sector = sector_of(block);
+    let trailer = bytes_of(image, trailer_of(sector));
+    if AccessBits::of(trailer).is_none() {
+        return Err(5);
+    }
+    let stored = match key {
+        Key::A => &trailer[0..6],
+        Key::B => &trailer[10..16],
+    };
+    if sent != stored {
+        return Err(4);
+    }
+    *session = Session { authenticated: Some((sector, key)), stage: Stage::None, register: None };
+    Ok(ACK)
+}
+
+/// Checks 2, 3, 5, 6 and 7 of a memory command; then the key, and the trailer's row of its sector.
+fn permitted(image: &[u8], session: &Session, block: u8, column: usize, is_value: bool) -> Result<(Key, usize), u8> {
+    if !has_block(image, block) {
+        return Err(2);
+    }
+    let sector = sector_of(block);
+    let Some((authenticated, key)) = session.authenticated else { return Err(3) };
+    if authenticated != sector {
+        return Err(3);
+    }
+    let Some(access) = AccessBits::of(bytes_of(image, trailer_of(sector))) else { return Err(5) };
+    let trailer_row = access.row(TRAILER_GROUP);
+    let of_trailer = is_trailer(block);
+    if block == 0 && column != READ || of_trailer && is_value {
+        return Err(6);
+    }
+    let allowed =
+        if of_trailer { column == READ || has(TRAILER[trailer_row].write_any(), key) } else { has(DATA[access.row(group_of(block))][column], key) };
+    if !allowed || key == Key::B && TRAILER[trailer_row].key_b_readable {
+        return Err(7);
+    }
+    Ok((key, trailer_row))
+}
+
+fn read(image: &[u8], session: &Session, block: u8) -> Judged {
+    let (_, trailer_row) = permitted(image, session, block, READ, false)?;
+    let mut reply = *bytes_of(image, block);
+    if is_trailer(block) {
+        reply[0..6].fill(0);
+        if !TRAILER[trailer_row].key_b_readable {
+            reply[10..16].fill(0);
+        }
+    }
+    Ok(Answer { number: 0, sign: Sign::Data, reply })
+}
+
+fn write(image: &[u8], session: &mut Session, block: u8) -> Judged {
+    permitted(image, session, block, WRITE, false)?;
+    session.stage = Stage::Write { block };
+    Ok(ACK)
+}
+
+fn write_data(image: &mut [u8], session: &mut Session, block: u8, frame: &[u8]) -> Judged {
+    let data: &BlockBytes = frame.try_into().map_err(|_| 1)?;
+    let (key, trailer_row) = permitted(image, session, block, WRITE, false)?;
+    let stored = bytes_of_mut(image, block);
+    if is_trailer(block) {
+        write_trailer(stored, data, key, trailer_row);
+    } else {
+        *stored = *data;
+    }
+    session.stage = Stage::None;
+    Ok(ACK)
+}
+
+/// Stores the parts that the key may write.
+fn write_trailer(stored: &mut BlockBytes, data: &BlockBytes, key: Key, trailer_row: usize) {
+    let row = &TRAILER[trailer_row];
+    if has(row.write_key_a, key) {
+        stored[0..6].copy_from_slice(&data[0..6]);
+    }
+    if has(row.write_bits, key) {
+        stored[6..10].copy_from_slice(&data[6..10]);
+    }
+    if has(row.write_key_b, key) {
+        stored[10..16].copy_from_slice(&data[10..16]);
+    }
+}
+
+/// The checks of both frames of a value operation; then the source's value.
+fn source(image: &[u8], session: &Session, operation: Operation, block: u8) -> Result<Value, u8> {
+    let column = match operation {
+        Operation::Increment => INCREMENT,
+        Operation::Decrement | Operation::Restore => DECREMENT,
+    };
+    permitted(image, session, block, column, true)?;
+    Value::decode(bytes_of(image, block)).ok_or(8)
+}
+
+fn value_operation(image: &[u8], session: &mut Session, operation: Operation, block: u8) -> Judged {
+    source(image, session, operation, block)?;
+    session.stage = Stage::Value { operation, block };
+    Ok(ACK)
+}
+
+fn operand(image: &[u8], session: &mut Session, operation: Operation, block: u8, frame: &[u8]) -> Judged {
+    let operand = i32::from_le_bytes(frame.try_into().map_err(|_| 1)?);
+    let Value { number, address } = source(image, session, operation, block)?;
+    let result = match operation {
+        Operation::Increment => number.checked_add(operand),
+        Operation::Decrement => number.checked_sub(operand),
+        Operation::Restore => Some(number),
+    };
+    session.register = Some(Value { number: result.ok_or(10)?, address });
+    session.stage = Stage::None;
+    Ok(SILENCE)
+}
+
+fn transfer(image: &mut [u8], session: &Session, block: u8) -> Judged {
+    permitted(image, session, block, DECREMENT, true)?;
+    let value = session.register.ok_or(9)?;
+    *bytes_of_mut(image, block) = value.encode();
+    Ok(ACK)
+}

@@ -1,0 +1,145 @@
+//! The calls that are timed, counted and measured: a ride, each command alone, each refusal; on a 1K and on a 4K card.
+
+use crate::calls::Card;
+use crate::card::{Operation, Session, Stage, FRESH};
+use crate::layout::{blocks_of, bytes_of_mut, is_trailer, trailer_of, BLOCK_BYTES};
+use crate::record::{of_session, Record};
+use crate::rights::Key;
+use crate::sessions::Sent;
+use crate::value::Value;
+
+const TRANSPORT_TRAILER: [u8; 16] = [255, 255, 255, 255, 255, 255, 0xFF, 0x07, 0x80, 0x69, 255, 255, 255, 255, 255, 255];
+const PURSE: Value = Value { number: 1_000_000_000, address: 4 };
+const FULL_PURSE: Value = Value { number: i32::MAX, address: 4 };
+
+/// Frames that start from one session and can be sent again and again.
+pub struct Case {
+    pub name: String,
+    pub image: Vec<u8>,
+    session: Record,
+    sent: Vec<Sent>,
+}
+
+impl Case {
+    pub fn send(&self, card: &Card, image: &mut [u8]) {
+        let (mut session, mut reply) = (self.session, [0; BLOCK_BYTES]);
+        for sent in &self.sent {
+            match sent {
+                Sent::Frame(frame) => card.frame(image, &mut session, frame, &mut reply),
+                Sent::FieldReset => card.field_reset(&mut session, &mut reply),
+            };
+        }
+        std::hint::black_box((&session, &reply));
+    }
+
+    /// The only call of a case that has one.
+    pub fn only(&self) -> Option<(Record, &Sent)> {
+        match &self.sent[..] {
+            [sent] => Some((self.session, sent)),
+            _ => None,
+        }
+    }
+}
+
+/// A card in transport state and the places of one of its sectors.
+struct Place {
+    image: Vec<u8>,
+    sector: u8,
+    purse: u8,
+    full_purse: u8,
+    plain: u8,
+}
+
+impl Place {
+    fn new(bytes: usize, sector: u8) -> Place {
+        let mut image = vec![0; bytes];
+        for block in (0..bytes / BLOCK_BYTES).map(|block| block as u8).filter(|block| is_trailer(*block)) {
+            *bytes_of_mut(&mut image, block) = TRANSPORT_TRAILER;
+        }
+        let (purse, _) = blocks_of(sector);
+        *bytes_of_mut(&mut image, purse) = PURSE.encode();
+        *bytes_of_mut(&mut image, purse + 1) = FULL_PURSE.encode();
+        bytes_of_mut(&mut image, trailer_of(sector + 1))[6..9].fill(0);
+        Place { image, sector, purse, full_purse: purse + 1, plain: purse + 2 }
+    }
+
+    fn case(&self, name: &str, session: Session, frames: &[&[u8]]) -> Case {
+        let sent = frames.iter().map(|frame| Sent::Frame(frame.to_vec())).collect();
+        let size = if self.image.len() == 1024 { "1K" } else { "4K" };
+        Case { name: format!("{name}, {size}"), image: self.image.clone(), session: of_session(&session), sent }
+    }
+
+    fn holder(&self) -> Session {
+        Session { authenticated: Some((self.sector, Key::A)), stage: Stage::None, register: Some(PURSE) }
+    }
+
+    fn waiting(&self, operation: Operation) -> Session {
+        Session { stage: Stage::Value { operation, block: self.purse }, ..self.holder() }
+    }
+
+    fn ride(&self) -> Case {
+        let (authenticate, purse) = ([0x60, self.purse, 255, 255, 255, 255, 255, 255], self.purse);
+        self.case("ride of five frames", FRESH, &[&authenticate, &[0xC0, purse], &[1, 0, 0, 0], &[0xB0, purse], &[0x30, purse]])
+    }
+
+    fn commands(&self) -> Vec<Case> {
+        let (holder, purse, trailer) = (self.holder(), self.purse, trailer_of(self.sector));
+        let write = |block| Session { stage: Stage::Write { block }, ..holder };
+        let mut cases = vec![
+            self.case("Authenticate A", FRESH, &[&[0x60, purse, 255, 255, 255, 255, 255, 255]]),
+            self.case("Authenticate B", FRESH, &[&[0x61, purse, 255, 255, 255, 255, 255, 255]]),
+            self.case("Read", holder, &[&[0x30, purse]]),
+            self.case("Read of a trailer", holder, &[&[0x30, trailer]]),
+            self.case("Write", holder, &[&[0xA0, purse]]),
+            self.case("Write's data", write(purse), &[&PURSE.encode()]),
+            self.case("Write's data for a trailer", write(trailer), &[&TRANSPORT_TRAILER]),
+            self.case("increment", holder, &[&[0xC1, purse]]),
+            self.case("increment's operand", self.waiting(Operation::Increment), &[&[1, 0, 0, 0]]),
+            self.case("decrement", holder, &[&[0xC0, purse]]),
+            self.case("decrement's operand", self.waiting(Operation::Decrement), &[&[1, 0, 0, 0]]),
+            self.case("restore", holder, &[&[0xC2, purse]]),
+            self.case("restore's operand", self.waiting(Operation::Restore), &[&[1, 0, 0, 0]]),
+            self.case("Transfer", holder, &[&[0xB0, purse]]),
+            self.case("Halt", holder, &[&[0x50, 0x00]]),
+        ];
+        let mut reset = self.case("field reset", holder, &[]);
+        reset.sent.push(Sent::FieldReset);
+        cases.push(reset);
+        cases
+    }
+
+    fn refusals(&self) -> Vec<Case> {
+        let (holder, purse) = (self.holder(), self.purse);
+        let elsewhere = Session { authenticated: Some((0, Key::A)), ..holder };
+        let in_blocked_sector = Session { authenticated: Some((self.sector + 1, Key::A)), ..holder };
+        let with_readable_b = Session { authenticated: Some((self.sector, Key::B)), ..holder };
+        let over = Session { stage: Stage::Value { operation: Operation::Increment, block: self.full_purse }, ..holder };
+        let mut cases = vec![
+            self.case("refused 12", Session { authenticated: None, ..holder }, &[&[0x30, purse]]),
+            self.case("refused 1", holder, &[&[0x31, purse]]),
+            self.case("refused 3", elsewhere, &[&[0x30, purse]]),
+            self.case("refused 5", in_blocked_sector, &[&[0x30, blocks_of(self.sector + 1).0]]),
+            self.case("refused 4", FRESH, &[&[0x60, purse, 255, 255, 255, 255, 255, 0]]),
+            self.case("refused 6", elsewhere, &[&[0xA0, 0]]),
+            self.case("refused 7", with_readable_b, &[&[0x30, purse]]),
+            self.case("refused 8", holder, &[&[0xC0, self.plain]]),
+            self.case("refused 9", Session { register: None, ..holder }, &[&[0xB0, purse]]),
+            self.case("refused 10", over, &[&[1, 0, 0, 0]]),
+        ];
+        if self.image.len() == 1024 {
+            cases.push(self.case("refused 2", holder, &[&[0x30, 64]]));
+            let mut no_card = self.case("refused 11", holder, &[&[0x30, purse]]);
+            no_card.image.pop();
+            cases.push(no_card);
+        }
+        cases
+    }
+}
+
+pub fn all() -> Vec<Case> {
+    let places = [Place::new(1024, 1), Place::new(4096, 33)];
+    let rides = places.iter().map(Place::ride);
+    let commands = places.iter().flat_map(Place::commands);
+    let refusals = places.iter().flat_map(Place::refusals);
+    rides.chain(commands).chain(refusals).collect()
+}

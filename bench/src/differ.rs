@@ -1,0 +1,147 @@
+//! The differential test: the same random calls to the library and to the Rust card, everything that comes back compared.
+
+use crate::calls::{Card, LIBRARY, RUST};
+use crate::cover::{self, Cover, ENOUGH};
+use crate::frames;
+use crate::images;
+use crate::layout::BlockBytes;
+use crate::random::Random;
+use crate::record::Record;
+use crate::sessions::{self, Reader, Sent};
+
+const CALLS_PER_LINE: u64 = 100_000;
+const CALLS_PER_IMAGE: usize = 24;
+/// From this many calls on, everything must have been met often enough.
+const FULL_RUN: u64 = 1_000_000;
+/// Bytes on either side of a lent image, which no card may touch.
+const MARGIN: usize = 16;
+
+/// What a card holds and has answered: an image between two margins, a session, the last reply and result.
+#[derive(PartialEq)]
+struct Side {
+    image: Vec<u8>,
+    session: Record,
+    reply: BlockBytes,
+    result: u32,
+}
+
+impl Side {
+    fn new(image: &[u8]) -> Side {
+        let margin = [0xA5; MARGIN];
+        Side { image: [&margin, image, &margin].concat(), session: [0; 12], reply: [0; 16], result: 0 }
+    }
+
+    fn image(&self) -> &[u8] {
+        &self.image[MARGIN..self.image.len() - MARGIN]
+    }
+
+    fn send(&mut self, card: &Card, sent: &Sent) {
+        self.reply = [0xEE; 16];
+        let end = self.image.len() - MARGIN;
+        self.result = match sent {
+            Sent::Frame(frame) => card.frame(&mut self.image[MARGIN..end], &mut self.session, frame, &mut self.reply),
+            Sent::FieldReset => card.field_reset(&mut self.session, &mut self.reply),
+        };
+    }
+
+    fn describe(&self, name: &str) {
+        println!("  {name:8} number {} sign {} session {:02X?} reply {:02X?}", self.result & 0xFF, self.result >> 8, self.session, self.reply);
+    }
+}
+
+struct Differ {
+    random: Random,
+    cover: Cover,
+    library: Side,
+    rust: Side,
+    calls: u64,
+}
+
+/// Gives whether no difference was met (and, in a full run, whether enough was covered).
+pub fn run(seed: u64, count: u64) -> bool {
+    let mut differ = Differ { random: Random::new(seed), cover: Cover::new(), library: Side::new(&[]), rust: Side::new(&[]), calls: 0 };
+    while differ.calls < count {
+        let image = images::any_size(&mut differ.random);
+        (differ.library, differ.rust) = (Side::new(&image), Side::new(&image));
+        let same = if differ.random.percent(50) { differ.forged_calls() } else { differ.careless_run() };
+        if !same {
+            println!("difference at call {} of seed {seed}", differ.calls);
+            return false;
+        }
+    }
+    differ.report(seed, count)
+}
+
+impl Differ {
+    fn forged_calls(&mut self) -> bool {
+        (0..CALLS_PER_IMAGE).all(|_| {
+            let session = sessions::forged(&mut self.random, self.rust.image());
+            (self.library.session, self.rust.session) = (session, session);
+            let awaited = sessions::awaited(&session);
+            let frame = frames::any(&mut self.random, self.rust.image(), session[1], awaited);
+            let sent = if self.random.percent(1) { Sent::FieldReset } else { Sent::Frame(frame) };
+            self.call(&sent)
+        })
+    }
+
+    fn careless_run(&mut self) -> bool {
+        let mut reader = Reader::new(&mut self.random, self.rust.image());
+        (0..CALLS_PER_IMAGE).all(|_| {
+            let sent = reader.send(&mut self.random, self.rust.image());
+            self.call(&sent)
+        })
+    }
+
+    /// Gives whether both cards did the same.
+    fn call(&mut self, sent: &Sent) -> bool {
+        let (session, met) = (self.rust.session, self.met(sent));
+        self.library.send(&LIBRARY, sent);
+        self.rust.send(&RUST, sent);
+        self.calls += 1;
+        match sent {
+            Sent::Frame(_) => self.cover.frame(met, self.rust.result as u8),
+            Sent::FieldReset => self.cover.field_reset(),
+        }
+        let same = self.library == self.rust;
+        if !same {
+            self.describe(&session, sent);
+        }
+        if self.calls % CALLS_PER_LINE == 0 {
+            println!("{:8} calls, no difference; {}", self.calls, self.cover.line());
+        }
+        same
+    }
+
+    fn met(&self, sent: &Sent) -> Option<cover::Met> {
+        match sent {
+            Sent::Frame(frame) => cover::met(self.rust.image(), &self.rust.session, frame),
+            Sent::FieldReset => None,
+        }
+    }
+
+    fn describe(&self, session: &Record, sent: &Sent) {
+        match sent {
+            Sent::Frame(frame) => println!("  frame {frame:02X?}"),
+            Sent::FieldReset => println!("  field reset"),
+        }
+        println!("  image of {} bytes, session {session:02X?}", self.rust.image().len());
+        self.library.describe("library");
+        self.rust.describe("Rust");
+        for (at, (library, rust)) in self.library.image().iter().zip(self.rust.image()).enumerate() {
+            if library != rust {
+                println!("  image byte {at} (block {}): library {library:02X}, Rust {rust:02X}", at / 16);
+            }
+        }
+    }
+
+    fn report(&self, seed: u64, count: u64) -> bool {
+        println!("seed {seed}: {} calls, no difference", self.calls);
+        self.cover.print_counts("number");
+        self.cover.print_counts("command");
+        self.cover.print_counts("memory");
+        let thin = self.cover.thin();
+        println!("{} of {} things met at least {ENOUGH} times", self.cover.things() - thin.len(), self.cover.things());
+        thin.iter().for_each(|thing| println!("  too seldom: {thing}"));
+        thin.is_empty() || count < FULL_RUN
+    }
+}

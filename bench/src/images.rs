@@ -1,0 +1,83 @@
+//! Random images: right and wrong sizes, every kind of trailer, value blocks and what only looks like one.
+
+use crate::layout::{bytes_of_mut, is_image, is_trailer, BlockBytes, BLOCK_BYTES};
+use crate::random::Random;
+use crate::value::Value;
+
+const WRONG_SIZES: [usize; 12] = [0, 1, 16, 1008, 1023, 1025, 1040, 2048, 4080, 4095, 4097, 4112];
+const NUMBERS_AT_THE_EDGE: [i32; 8] = [0, 1, -1, 100, i32::MAX, i32::MIN, i32::MAX - 1, i32::MIN + 1];
+const TRANSPORT_BITS: [u8; 3] = [0xFF, 0x07, 0x80];
+
+pub fn any_size(random: &mut Random) -> Vec<u8> {
+    if random.percent(4) {
+        let mut image = vec![0; random.pick(&WRONG_SIZES)];
+        random.fill(&mut image);
+        image
+    } else {
+        right_size(random)
+    }
+}
+
+pub fn right_size(random: &mut Random) -> Vec<u8> {
+    let mut image = vec![0; random.pick(&[1024, 4096])];
+    debug_assert!(is_image(&image));
+    for block in 0..image.len() / BLOCK_BYTES {
+        let block = block as u8;
+        *bytes_of_mut(&mut image, block) = if is_trailer(block) { trailer(random) } else { data(random) };
+    }
+    image
+}
+
+pub fn data(random: &mut Random) -> BlockBytes {
+    match random.below(10) {
+        0 => [0; BLOCK_BYTES],
+        1 => random.bytes(),
+        2 => {
+            let mut nearly_a_value = value(random).encode();
+            nearly_a_value[random.below(BLOCK_BYTES)] ^= 1 << random.below(8);
+            nearly_a_value
+        }
+        _ => value(random).encode(),
+    }
+}
+
+fn value(random: &mut Random) -> Value {
+    Value { number: number(random), address: random.byte() }
+}
+
+pub fn number(random: &mut Random) -> i32 {
+    if random.percent(50) {
+        random.pick(&NUMBERS_AT_THE_EDGE)
+    } else {
+        random.word() as i32
+    }
+}
+
+pub fn trailer(random: &mut Random) -> BlockBytes {
+    let mut trailer = [0; BLOCK_BYTES];
+    trailer[0..6].copy_from_slice(&key(random));
+    trailer[6..9].copy_from_slice(&access_bytes(random));
+    trailer[9] = random.byte();
+    trailer[10..16].copy_from_slice(&key(random));
+    trailer
+}
+
+fn key(random: &mut Random) -> [u8; 6] {
+    if random.percent(30) {
+        [0xFF; 6]
+    } else {
+        random.bytes()
+    }
+}
+
+fn access_bytes(random: &mut Random) -> [u8; 3] {
+    let (c1, c2, c3) = (random.byte() & 15, random.byte() & 15, random.byte() & 15);
+    let mut bytes = [(15 - c2) << 4 | (15 - c1), c1 << 4 | (15 - c3), c3 << 4 | c2];
+    match random.below(10) {
+        0 => bytes = random.bytes(),
+        1 => bytes[random.below(3)] ^= 1 << random.below(8),
+        2 => bytes = TRANSPORT_BITS,
+        _ => (),
+    }
+    bytes
+}

@@ -1,0 +1,50 @@
+//! The bench: an unverified Rust card, and what the proved library is compared with it for: answers, speed, stack.
+
+mod calls;
+mod card;
+mod cases;
+mod cover;
+mod differ;
+mod frames;
+mod images;
+mod instructions;
+mod layout;
+mod random;
+mod record;
+mod rights;
+mod script;
+mod scripts;
+mod sessions;
+mod speed;
+mod stack;
+mod value;
+
+use std::process::ExitCode;
+
+const USAGE: &str = "usage: bench differ SEED COUNT | scripts SEED COUNT PLAYER | speed | stack";
+
+fn main() -> ExitCode {
+    let words: Vec<String> = std::env::args().skip(1).collect();
+    let words: Vec<&str> = words.iter().map(String::as_str).collect();
+    let good = match words[..] {
+        ["differ", seed, count] => differ::run(number(seed), number(count)),
+        ["scripts", seed, count, player] => scripts::run(number(seed), number(count), player),
+        ["speed"] => done(speed::print_table()),
+        ["stack"] => done(stack::print_table()),
+        ["count", card] => done(instructions::count(&instructions::card_named(card).expect("library or rust"))),
+        _ => {
+            eprintln!("{USAGE}");
+            return ExitCode::from(2);
+        }
+    };
+    ExitCode::from(u8::from(!good))
+}
+
+/// A table is good once it is printed.
+fn done((): ()) -> bool {
+    true
+}
+
+fn number(word: &str) -> u64 {
+    word.parse().unwrap_or_else(|_| panic!("{word} is not a number; {USAGE}"))
+}

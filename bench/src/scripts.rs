@@ -1,0 +1,101 @@
+//! Whole scripts, lawful and broken, through the library's player call, the proved player program and the Rust player.
+
+use crate::calls::{LIBRARY, PRINTOUT_BYTES, RUST};
+use crate::images;
+use crate::random::Random;
+use crate::sessions::{Reader, Sent};
+use std::collections::BTreeMap;
+use std::io::Write;
+use std::process::{Command, Stdio};
+
+/// Gives whether all printouts were the same, byte for byte.
+pub fn run(seed: u64, count: u64, player: &str) -> bool {
+    let mut random = Random::new(seed);
+    let mut met = BTreeMap::new();
+    let (mut by_rust, mut by_library) = (vec_of_printout(), vec_of_printout());
+    for script_number in 1..=count {
+        let script = any(&mut random);
+        let rust = RUST.play(&script, &mut by_rust);
+        let library = LIBRARY.play(&script, &mut by_library);
+        let program = printed_by(player, &script);
+        if by_rust[..rust] != by_library[..library] || by_rust[..rust] != program[..] {
+            println!("difference at script {script_number} of seed {seed}");
+            print_side("library", &by_library[..library]);
+            print_side("player", &program);
+            print_side("Rust", &by_rust[..rust]);
+            return false;
+        }
+        let first_line = by_rust[..rust].split(|byte| *byte == b'\n').next().unwrap();
+        *met.entry(kind_of(first_line)).or_insert(0) += 1;
+    }
+    println!("seed {seed}: {count} scripts through the library, the player and the Rust player, no difference");
+    met.iter().for_each(|(kind, times)| println!("  {kind:24} {times:9}"));
+    true
+}
+
+fn vec_of_printout() -> Box<[u8; PRINTOUT_BYTES]> {
+    vec![0; PRINTOUT_BYTES].try_into().unwrap()
+}
+
+/// The image's size, or the number of the refusal.
+fn kind_of(first_line: &[u8]) -> String {
+    String::from_utf8_lossy(first_line).split(' ').take(2).collect::<Vec<_>>().join(" ")
+}
+
+fn print_side(name: &str, printout: &[u8]) {
+    println!("--- {name}\n{}", String::from_utf8_lossy(printout));
+}
+
+fn printed_by(player: &str, script: &[u8]) -> Vec<u8> {
+    let mut child = Command::new(player).stdin(Stdio::piped()).stdout(Stdio::piped()).spawn().expect("the player starts");
+    // The player stops reading a script that is too long, so a write may fail; the printout is judged all the same.
+    let _ = child.stdin.take().unwrap().write_all(script);
+    child.wait_with_output().expect("the player ends").stdout
+}
+
+fn any(random: &mut Random) -> Vec<u8> {
+    let event_count = random.pick(&[0, 1, 2, 7, 20, 60, 200, 1000]);
+    let script = lawful(random, event_count);
+    if random.percent(70) {
+        script
+    } else {
+        broken(random, script)
+    }
+}
+
+pub fn lawful(random: &mut Random, event_count: u16) -> Vec<u8> {
+    let image = images::right_size(random);
+    let mut script = (image.len() as u16).to_le_bytes().to_vec();
+    script.extend(&image);
+    script.extend(event_count.to_le_bytes());
+    let mut reader = Reader::new(random, &image);
+    for _ in 0..event_count {
+        let event = match reader.send(random, &image) {
+            Sent::Frame(mut frame) => {
+                frame.truncate(18);
+                frame
+            }
+            Sent::FieldReset => vec![],
+        };
+        script.push(event.len() as u8);
+        script.extend(event);
+    }
+    script
+}
+
+/// One change, or one cut, that most often breaks a rule of the format.
+fn broken(random: &mut Random, mut script: Vec<u8>) -> Vec<u8> {
+    let event_count_at = script.len().min(2 + if script[1] == 4 { 1024 } else { 4096 });
+    match random.below(7) {
+        0 => script.truncate(random.below(script.len())),
+        1 => script.truncate(random.below(4)),
+        2 => script[random.pick(&[0, 1])] = random.byte(),
+        3 => script[event_count_at + 1] = random.byte(),
+        4 => script[event_count_at] = random.byte(),
+        5 => script.extend(vec![random.byte(); 1 + random.below(30000)]),
+        _ => {
+            script[event_count_at..].iter_mut().skip(2).take(1).for_each(|count| *count = 19 + random.byte() % 200);
+        }
+    }
+    script
+}
