@@ -1,6 +1,6 @@
 //! The two cards under one set of calls, those of include/tirlwheel.h: the proved library, and the Rust card behind the same boundary.
 
-use crate::card::{self, Answer, Session, FRESH};
+use crate::card::{self, Answer, FRESH};
 use crate::layout::{is_image, BlockBytes};
 use crate::record::{of_session, to_session, Record};
 use crate::script;
@@ -46,9 +46,7 @@ impl Card {
     }
 }
 
-fn hand_over(answer: &Answer, session: &Session, record: &mut Record, reply: &mut BlockBytes) -> u32 {
-    *record = of_session(session);
-    *reply = answer.reply;
+fn packed(answer: Answer) -> u32 {
     u32::from(answer.number) | (answer.sign as u32) << 8
 }
 
@@ -62,21 +60,21 @@ unsafe extern "C" fn rust_frame(
 ) -> u32 {
     let image = std::slice::from_raw_parts_mut(image, image_len);
     let frame = std::slice::from_raw_parts(frame, frame_len);
-    let mut session = FRESH;
-    let answer = match to_session(&*record) {
-        Some(held) => {
-            session = held;
-            card::frame(image, &mut session, frame)
-        }
-        None => card::refusal(if is_image(image) { 12 } else { 11 }),
+    let Some(mut session) = to_session(&*record) else {
+        *record = of_session(&FRESH);
+        *reply = [0; 16];
+        return packed(card::refusal(if is_image(image) { 12 } else { 11 }));
     };
-    hand_over(&answer, &session, &mut *record, &mut *reply)
+    let answer = card::frame(image, &mut session, frame, &mut *reply);
+    *record = of_session(&session);
+    packed(answer)
 }
 
 unsafe extern "C" fn rust_field_reset(record: *mut Record, reply: *mut BlockBytes) -> u32 {
     let mut session = FRESH;
-    let answer = card::field_reset(&mut session);
-    hand_over(&answer, &session, &mut *record, &mut *reply)
+    let answer = card::field_reset(&mut session, &mut *reply);
+    *record = of_session(&session);
+    packed(answer)
 }
 
 unsafe extern "C" fn rust_play(script: *const u8, script_len: usize, printout: *mut [u8; PRINTOUT_BYTES]) -> usize {

@@ -1,7 +1,7 @@
 //! The card of paper 01 as an unverified engineer would write it, from the paper's text alone.
 
 use crate::layout::{bytes_of, bytes_of_mut, group_of, has_block, is_image, is_trailer, sector_of, sectors, trailer_of, BlockBytes, TRAILER_GROUP};
-use crate::rights::{has, AccessBits, Key, DATA, DECREMENT, INCREMENT, READ, TRAILER, WRITE};
+use crate::rights::{data, has, trailer, AccessBits, Key, DECREMENT, INCREMENT, READ, WRITE};
 use crate::value::Value;
 
 #[derive(Clone, Copy, PartialEq, Eq, Debug)]
@@ -35,38 +35,39 @@ pub enum Sign {
     Nothing,
 }
 
+/// An answer but for its sixteen bytes, which are lent.
 #[derive(Clone, Copy, PartialEq, Eq, Debug)]
 pub struct Answer {
     pub number: u8,
     pub sign: Sign,
-    pub reply: BlockBytes,
 }
-
-const NO_REPLY: BlockBytes = [0; 16];
-const ACK: Answer = Answer { number: 0, sign: Sign::Ack, reply: NO_REPLY };
-pub const SILENCE: Answer = Answer { number: 0, sign: Sign::Nothing, reply: NO_REPLY };
 
 pub fn refusal(number: u8) -> Answer {
     let sign = if matches!(number, 1 | 4 | 11 | 12) { Sign::Nothing } else { Sign::Nak };
-    Answer { number, sign, reply: NO_REPLY }
+    Answer { number, sign }
 }
 
-/// An accepted frame's answer, or the number of its refusal.
-type Judged = Result<Answer, u8>;
+/// An accepted frame's sign, or the number of its refusal.
+type Judged = Result<Sign, u8>;
 
-pub fn frame(image: &mut [u8], session: &mut Session, frame: &[u8]) -> Answer {
-    judge(image, session, frame).unwrap_or_else(|number| {
-        *session = FRESH;
-        refusal(number)
-    })
+pub fn frame(image: &mut [u8], session: &mut Session, frame: &[u8], reply: &mut BlockBytes) -> Answer {
+    *reply = [0; 16];
+    match judge(image, session, frame, reply) {
+        Ok(sign) => Answer { number: 0, sign },
+        Err(number) => {
+            *session = FRESH;
+            refusal(number)
+        }
+    }
 }
 
-pub fn field_reset(session: &mut Session) -> Answer {
+pub fn field_reset(session: &mut Session, reply: &mut BlockBytes) -> Answer {
+    *reply = [0; 16];
     *session = FRESH;
-    SILENCE
+    Answer { number: 0, sign: Sign::Nothing }
 }
 
-fn judge(image: &mut [u8], session: &mut Session, frame: &[u8]) -> Judged {
+fn judge(image: &mut [u8], session: &mut Session, frame: &[u8], reply: &mut BlockBytes) -> Judged {
     if !is_image(image) {
         return Err(11);
     }
@@ -74,7 +75,7 @@ fn judge(image: &mut [u8], session: &mut Session, frame: &[u8]) -> Judged {
         return Err(12);
     }
     match session.stage {
-        Stage::None => command(image, session, frame),
+        Stage::None => command(image, session, frame, reply),
         Stage::Write { block } => write_data(image, session, block, frame),
         Stage::Value { operation, block } => operand(image, session, operation, block, frame),
     }
@@ -87,11 +88,11 @@ fn is_coherent(image: &[u8], session: &Session) -> bool {
     }
 }
 
-fn command(image: &mut [u8], session: &mut Session, frame: &[u8]) -> Judged {
+fn command(image: &mut [u8], session: &mut Session, frame: &[u8], reply: &mut BlockBytes) -> Judged {
     match *frame {
-        [0x60, block, ref key @ ..] if key.len() == 6 => authenticate(image, session, block, Key::A, key),
-        [0x61, block, ref key @ ..] if key.len() == 6 => authenticate(image, session, block, Key::B, key),
-        [0x30, block] => read(image, session, block),
+        [0x60, block, ref key @ ..] if key.len() == 6 => authenticate(image, session, block, Key::A, key.try_into().unwrap()),
+        [0x61, block, ref key @ ..] if key.len() == 6 => authenticate(image, session, block, Key::B, key.try_into().unwrap()),
+        [0x30, block] => read(image, session, block, reply),
         [0xA0, block] => write(image, session, block),
         [0xC1, block] => value_operation(image, session, Operation::Increment, block),
         [0xC0, block] => value_operation(image, session, Operation::Decrement, block),
@@ -99,13 +100,13 @@ fn command(image: &mut [u8], session: &mut Session, frame: &[u8]) -> Judged {
         [0xB0, block] => transfer(image, session, block),
         [0x50, 0x00] => {
             *session = FRESH;
-            Ok(SILENCE)
+            Ok(Sign::Nothing)
         }
         _ => Err(1),
     }
 }
 
-fn authenticate(image: &[u8], session: &mut Session, block: u8, key: Key, sent: &[u8]) -> Judged {
+fn authenticate(image: &[u8], session: &mut Session, block: u8, key: Key, sent: &[u8; 6]) -> Judged {
     if !has_block(image, block) {
         return Err(2);
     }
@@ -118,15 +119,17 @@ fn authenticate(image: &[u8], session: &mut Session, block: u8, key: Key, sent: 
         Key::A => &trailer[0..6],
         Key::B => &trailer[10..16],
     };
-    if sent != stored {
+    if sent[..] != *stored {
         return Err(4);
     }
     *session = Session { authenticated: Some((sector, key)), stage: Stage::None, register: None };
-    Ok(ACK)
+    Ok(Sign::Ack)
 }
 
 /// Checks 2, 3, 5, 6 and 7 of a memory command; then the key, and the trailer's row of its sector.
-fn permitted(image: &[u8], session: &Session, block: u8, column: usize, is_value: bool) -> Result<(Key, usize), u8> {
+/// Inlined, like `source`: a call loads the session's bytes as one word just after they were stored one by one, and waits for them.
+#[inline(always)]
+fn permitted(image: &[u8], session: &Session, block: u8, column: usize, is_value: bool) -> Result<(Key, u8), u8> {
     if !has_block(image, block) {
         return Err(2);
     }
@@ -142,29 +145,29 @@ fn permitted(image: &[u8], session: &Session, block: u8, column: usize, is_value
         return Err(6);
     }
     let allowed =
-        if of_trailer { column == READ || has(TRAILER[trailer_row].write_any(), key) } else { has(DATA[access.row(group_of(block))][column], key) };
-    if !allowed || key == Key::B && TRAILER[trailer_row].key_b_readable {
+        if of_trailer { column == READ || has(trailer(trailer_row).write_any(), key) } else { has(data(access.row(group_of(block)))[column], key) };
+    if !allowed || key == Key::B && trailer(trailer_row).key_b_readable {
         return Err(7);
     }
     Ok((key, trailer_row))
 }
 
-fn read(image: &[u8], session: &Session, block: u8) -> Judged {
+fn read(image: &[u8], session: &Session, block: u8, reply: &mut BlockBytes) -> Judged {
     let (_, trailer_row) = permitted(image, session, block, READ, false)?;
-    let mut reply = *bytes_of(image, block);
+    *reply = *bytes_of(image, block);
     if is_trailer(block) {
         reply[0..6].fill(0);
-        if !TRAILER[trailer_row].key_b_readable {
+        if !trailer(trailer_row).key_b_readable {
             reply[10..16].fill(0);
         }
     }
-    Ok(Answer { number: 0, sign: Sign::Data, reply })
+    Ok(Sign::Data)
 }
 
 fn write(image: &[u8], session: &mut Session, block: u8) -> Judged {
     permitted(image, session, block, WRITE, false)?;
     session.stage = Stage::Write { block };
-    Ok(ACK)
+    Ok(Sign::Ack)
 }
 
 fn write_data(image: &mut [u8], session: &mut Session, block: u8, frame: &[u8]) -> Judged {
@@ -177,12 +180,12 @@ fn write_data(image: &mut [u8], session: &mut Session, block: u8, frame: &[u8]) 
         *stored = *data;
     }
     session.stage = Stage::None;
-    Ok(ACK)
+    Ok(Sign::Ack)
 }
 
 /// Stores the parts that the key may write.
-fn write_trailer(stored: &mut BlockBytes, data: &BlockBytes, key: Key, trailer_row: usize) {
-    let row = &TRAILER[trailer_row];
+fn write_trailer(stored: &mut BlockBytes, data: &BlockBytes, key: Key, trailer_row: u8) {
+    let row = trailer(trailer_row);
     if has(row.write_key_a, key) {
         stored[0..6].copy_from_slice(&data[0..6]);
     }
@@ -195,6 +198,7 @@ fn write_trailer(stored: &mut BlockBytes, data: &BlockBytes, key: Key, trailer_r
 }
 
 /// The checks of both frames of a value operation; then the source's value.
+#[inline(always)]
 fn source(image: &[u8], session: &Session, operation: Operation, block: u8) -> Result<Value, u8> {
     let column = match operation {
         Operation::Increment => INCREMENT,
@@ -207,7 +211,7 @@ fn source(image: &[u8], session: &Session, operation: Operation, block: u8) -> R
 fn value_operation(image: &[u8], session: &mut Session, operation: Operation, block: u8) -> Judged {
     source(image, session, operation, block)?;
     session.stage = Stage::Value { operation, block };
-    Ok(ACK)
+    Ok(Sign::Ack)
 }
 
 fn operand(image: &[u8], session: &mut Session, operation: Operation, block: u8, frame: &[u8]) -> Judged {
@@ -220,12 +224,12 @@ fn operand(image: &[u8], session: &mut Session, operation: Operation, block: u8,
     };
     session.register = Some(Value { number: result.ok_or(10)?, address });
     session.stage = Stage::None;
-    Ok(SILENCE)
+    Ok(Sign::Nothing)
 }
 
 fn transfer(image: &mut [u8], session: &Session, block: u8) -> Judged {
     permitted(image, session, block, DECREMENT, true)?;
     let value = session.register.ok_or(9)?;
     *bytes_of_mut(image, block) = value.encode();
-    Ok(ACK)
+    Ok(Sign::Ack)
 }

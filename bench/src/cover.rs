@@ -116,7 +116,7 @@ fn command_name(command: &str) -> String {
     format!("command {command}")
 }
 
-fn row_name(table: &str, row: usize, letter: char, command: &str) -> String {
+fn row_name(table: &str, row: u8, letter: char, command: &str) -> String {
     format!("{table} row {row:03b} key {letter} {command}")
 }
 

@@ -98,18 +98,18 @@ impl Differ {
         self.library.send(&LIBRARY, sent);
         self.rust.send(&RUST, sent);
         self.calls += 1;
+        if self.library != self.rust {
+            self.describe(&session, sent);
+            return false;
+        }
         match sent {
             Sent::Frame(_) => self.cover.frame(met, self.rust.result as u8),
             Sent::FieldReset => self.cover.field_reset(),
         }
-        let same = self.library == self.rust;
-        if !same {
-            self.describe(&session, sent);
-        }
         if self.calls % CALLS_PER_LINE == 0 {
             println!("{:8} calls, no difference; {}", self.calls, self.cover.line());
         }
-        same
+        true
     }
 
     fn met(&self, sent: &Sent) -> Option<cover::Met> {

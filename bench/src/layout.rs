@@ -4,7 +4,7 @@ pub const BLOCK_BYTES: usize = 16;
 pub type BlockBytes = [u8; BLOCK_BYTES];
 
 /// The access group of every trailer.
-pub const TRAILER_GROUP: usize = 3;
+pub const TRAILER_GROUP: u8 = 3;
 
 pub fn is_image(image: &[u8]) -> bool {
     matches!(image.len(), 1024 | 4096)
@@ -47,11 +47,11 @@ pub fn blocks_of(sector: u8) -> (u8, u8) {
     }
 }
 
-pub fn group_of(block: u8) -> usize {
+pub fn group_of(block: u8) -> u8 {
     if block < 128 {
-        usize::from(block % 4)
+        block % 4
     } else {
-        usize::from(block % 16 / 5)
+        block % 16 / 5
     }
 }
 

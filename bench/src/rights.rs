@@ -26,7 +26,7 @@ pub const INCREMENT: usize = 2;
 pub const DECREMENT: usize = 3;
 
 /// Indexed by C1 C2 C3, C1 counting four.
-pub const DATA: [[Keys; 4]; 8] = [
+static DATA: [[Keys; 4]; 8] = [
     [AB, AB, AB, AB],
     [AB, NEVER, NEVER, AB],
     [AB, NEVER, NEVER, NEVER],
@@ -56,7 +56,7 @@ const fn trailer_row(write_key_a: Keys, write_bits: Keys, write_key_b: Keys, key
 }
 
 /// Indexed like DATA.
-pub const TRAILER: [TrailerRow; 8] = [
+static TRAILER: [TrailerRow; 8] = [
     trailer_row(A, NEVER, A, true),
     trailer_row(A, A, A, true),
     trailer_row(NEVER, NEVER, NEVER, true),
@@ -66,6 +66,15 @@ pub const TRAILER: [TrailerRow; 8] = [
     trailer_row(NEVER, NEVER, NEVER, false),
     trailer_row(NEVER, NEVER, NEVER, false),
 ];
+
+/// The row of C1 C2 C3.
+pub fn data(row: u8) -> &'static [Keys; 4] {
+    &DATA[usize::from(row & 7)]
+}
+
+pub fn trailer(row: u8) -> &'static TrailerRow {
+    &TRAILER[usize::from(row & 7)]
+}
 
 /// The access bits of a sector that is not blocked: a nibble for each of C1, C2, C3.
 #[derive(Clone, Copy)]
@@ -84,8 +93,8 @@ impl AccessBits {
     }
 
     /// C1 C2 C3 of a group: its row in either table.
-    pub fn row(self, group: usize) -> usize {
-        let bit = |nibble: u8| usize::from(nibble >> group & 1);
+    pub fn row(self, group: u8) -> u8 {
+        let bit = |nibble: u8| nibble >> group & 1;
         bit(self.c1) * 4 + bit(self.c2) * 2 + bit(self.c3)
     }
 }

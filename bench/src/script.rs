@@ -84,18 +84,19 @@ impl Writer<'_> {
         self.text(b" events ");
         self.number(script.event_count);
         self.text(b"\n");
-        let (mut copy, mut session) = ([0; 4096], FRESH);
+        let (mut copy, mut session, mut reply) = ([0; 4096], FRESH, [0; BLOCK_BYTES]);
         let image = &mut copy[..script.image.len()];
         image.copy_from_slice(script.image);
         for event in 1..=script.event_count {
             let frame = script.events.event().expect("judged when read");
-            let answer = if frame.is_empty() { card::field_reset(&mut session) } else { card::frame(image, &mut session, frame) };
-            self.event_line(event, &answer);
+            let answer =
+                if frame.is_empty() { card::field_reset(&mut session, &mut reply) } else { card::frame(image, &mut session, frame, &mut reply) };
+            self.event_line(event, answer, &reply);
         }
         self.changes(script.image, image);
     }
 
-    fn event_line(&mut self, event: usize, answer: &Answer) {
+    fn event_line(&mut self, event: usize, answer: Answer, reply: &BlockBytes) {
         self.number(event);
         self.text(b" ");
         self.number(usize::from(answer.number));
@@ -104,7 +105,7 @@ impl Writer<'_> {
             Sign::Ack => self.text(b"A"),
             Sign::Nak => self.text(b"N"),
             Sign::Nothing => self.text(b"-"),
-            Sign::Data => self.hex(&answer.reply),
+            Sign::Data => self.hex(reply),
         }
         self.text(b"\n");
     }

@@ -12,9 +12,11 @@ pub struct Value {
 impl Value {
     /// None where one of the sixteen bytes does not agree.
     pub fn decode(block: &BlockBytes) -> Option<Value> {
-        let number = i32::from_le_bytes([block[0], block[1], block[2], block[3]]);
-        let value = Value { number, address: block[12] };
-        (value.encode() == *block).then_some(value)
+        let word = |at: usize| u32::from_le_bytes([block[at], block[at + 1], block[at + 2], block[at + 3]]);
+        let (number, address) = (word(0), block[12]);
+        let addresses = u32::from_le_bytes([address, !address, address, !address]);
+        let agree = word(4) == !number && word(8) == number && word(12) == addresses;
+        agree.then_some(Value { number: number as i32, address })
     }
 
     pub fn encode(self) -> BlockBytes {
