@@ -3,9 +3,9 @@
 use crate::calls::Card;
 use crate::card::{Operation, Session, Stage, FRESH};
 use crate::layout::{blocks_of, bytes_of_mut, is_trailer, trailer_of, BLOCK_BYTES};
+use crate::reader::Sent;
 use crate::record::{of_session, Record};
 use crate::rights::Key;
-use crate::sessions::Sent;
 use crate::value::Value;
 
 const TRANSPORT_TRAILER: [u8; 16] = [255, 255, 255, 255, 255, 255, 0xFF, 0x07, 0x80, 0x69, 255, 255, 255, 255, 255, 255];

@@ -6,8 +6,9 @@ use crate::frames;
 use crate::images;
 use crate::layout::BlockBytes;
 use crate::random::Random;
+use crate::reader::{Reader, Sent};
 use crate::record::Record;
-use crate::sessions::{self, Reader, Sent};
+use crate::sessions;
 
 const CALLS_PER_LINE: u64 = 100_000;
 const CALLS_PER_IMAGE: usize = 24;

@@ -1,6 +1,6 @@
 //! Instructions of each case, counted by valgrind's callgrind: exact where times are noisy.
 
-use crate::calls::{Card, LIBRARY, RUST};
+use crate::calls::Card;
 use crate::speed;
 use std::fs;
 use std::process::{Command, Stdio};
@@ -27,14 +27,6 @@ pub fn of_both() -> Vec<(f64, f64)> {
     let of_library = counted("library", &["tirlwheel_frame", "tirlwheel_field_reset", "tirlwheel_play"]);
     let of_rust = counted("rust", &["*rust_frame*", "*rust_field_reset*", "*rust_play*"]);
     of_library.into_iter().zip(of_rust).collect()
-}
-
-pub fn card_named(name: &str) -> Option<Card> {
-    match name {
-        "library" => Some(LIBRARY),
-        "rust" => Some(RUST),
-        _ => None,
-    }
 }
 
 /// Runs this program again under callgrind, which counts inside the named functions alone.

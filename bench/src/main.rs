@@ -10,6 +10,7 @@ mod images;
 mod instructions;
 mod layout;
 mod random;
+mod reader;
 mod record;
 mod rights;
 mod script;
@@ -19,6 +20,7 @@ mod speed;
 mod stack;
 mod value;
 
+use calls::{LIBRARY, RUST};
 use std::process::ExitCode;
 
 const USAGE: &str = "usage: bench differ SEED COUNT | scripts SEED COUNT PLAYER | speed | stack";
@@ -29,20 +31,28 @@ fn main() -> ExitCode {
     let good = match words[..] {
         ["differ", seed, count] => differ::run(number(seed), number(count)),
         ["scripts", seed, count, player] => scripts::run(number(seed), number(count), player),
-        ["speed"] => done(speed::print_table()),
-        ["stack"] => done(stack::print_table()),
-        ["count", card] => done(instructions::count(&instructions::card_named(card).expect("library or rust"))),
+        ["speed"] => {
+            speed::print_table();
+            true
+        }
+        ["stack"] => {
+            stack::print_table();
+            true
+        }
+        ["count", "library"] => {
+            instructions::count(&LIBRARY);
+            true
+        }
+        ["count", "rust"] => {
+            instructions::count(&RUST);
+            true
+        }
         _ => {
             eprintln!("{USAGE}");
             return ExitCode::from(2);
         }
     };
     ExitCode::from(u8::from(!good))
-}
-
-/// A table is good once it is printed.
-fn done((): ()) -> bool {
-    true
 }
 
 fn number(word: &str) -> u64 {

@@ -1,18 +1,24 @@
 //! Whole scripts, lawful and broken, through the library's player call, the proved player program and the Rust player.
 
 use crate::calls::{LIBRARY, PRINTOUT_BYTES, RUST};
+use crate::cover::ENOUGH;
 use crate::images;
 use crate::random::Random;
-use crate::sessions::{Reader, Sent};
+use crate::reader::{Reader, Sent};
 use std::collections::BTreeMap;
 use std::io::Write;
 use std::process::{Command, Stdio};
 
-/// Gives whether all printouts were the same, byte for byte.
+/// Two sizes of card and five refusals.
+const KINDS: usize = 7;
+/// From this many scripts on, each kind must have been met often enough.
+const FULL_RUN: u64 = 3000;
+
+/// Gives whether all printouts were the same, byte for byte (and, in a full run, whether enough was covered).
 pub fn run(seed: u64, count: u64, player: &str) -> bool {
     let mut random = Random::new(seed);
     let mut met = BTreeMap::new();
-    let (mut by_rust, mut by_library) = (vec_of_printout(), vec_of_printout());
+    let (mut by_rust, mut by_library) = (blank_printout(), blank_printout());
     for script_number in 1..=count {
         let script = any(&mut random);
         let rust = RUST.play(&script, &mut by_rust);
@@ -30,10 +36,10 @@ pub fn run(seed: u64, count: u64, player: &str) -> bool {
     }
     println!("seed {seed}: {count} scripts through the library, the player and the Rust player, no difference");
     met.iter().for_each(|(kind, times)| println!("  {kind:24} {times:9}"));
-    true
+    count < FULL_RUN || met.len() == KINDS && met.values().all(|times| *times >= ENOUGH)
 }
 
-fn vec_of_printout() -> Box<[u8; PRINTOUT_BYTES]> {
+fn blank_printout() -> Box<[u8; PRINTOUT_BYTES]> {
     vec![0; PRINTOUT_BYTES].try_into().unwrap()
 }
 
@@ -56,7 +62,7 @@ fn printed_by(player: &str, script: &[u8]) -> Vec<u8> {
 fn any(random: &mut Random) -> Vec<u8> {
     let event_count = random.pick(&[0, 1, 2, 7, 20, 60, 200, 1000]);
     let script = lawful(random, event_count);
-    if random.percent(70) {
+    if random.percent(50) {
         script
     } else {
         broken(random, script)
@@ -83,18 +89,20 @@ pub fn lawful(random: &mut Random, event_count: u16) -> Vec<u8> {
     script
 }
 
-/// One change, or one cut, that most often breaks a rule of the format.
+/// One cut, or one change to a count, that most often breaks a rule of the format.
 fn broken(random: &mut Random, mut script: Vec<u8>) -> Vec<u8> {
-    let event_count_at = script.len().min(2 + if script[1] == 4 { 1024 } else { 4096 });
-    match random.below(7) {
+    let image_bytes = usize::from(u16::from_le_bytes([script[0], script[1]]));
+    let event_count_at = 2 + image_bytes;
+    match random.below(6) {
         0 => script.truncate(random.below(script.len())),
         1 => script.truncate(random.below(4)),
-        2 => script[random.pick(&[0, 1])] = random.byte(),
+        2 => script[random.below(2)] = random.byte(),
         3 => script[event_count_at + 1] = random.byte(),
-        4 => script[event_count_at] = random.byte(),
-        5 => script.extend(vec![random.byte(); 1 + random.below(30000)]),
+        4 => script.extend(vec![random.byte(); 1 + random.below(30000)]),
         _ => {
-            script[event_count_at..].iter_mut().skip(2).take(1).for_each(|count| *count = 19 + random.byte() % 200);
+            if let Some(first_event_count) = script.get_mut(event_count_at + 2) {
+                *first_event_count = 19 + random.byte() % 200;
+            }
         }
     }
     script

@@ -82,19 +82,20 @@ pub fn works() -> Vec<Work> {
     works
 }
 
+/// One line of the table: the ratio by time of a piece of work.
+fn print_line(work: &mut Work, (library_count, rust_count): (f64, f64)) -> f64 {
+    let (library, rust) = work.times_of_both();
+    let (by_time, by_count) = (library / rust, library_count / rust_count);
+    println!("{:36} {library:8.1} {rust:8.1} {by_time:6.2}   {library_count:8.0} {rust_count:8.0} {by_count:6.2}", work.name);
+    by_time
+}
+
 pub fn print_table() {
     let counted = instructions::of_both();
     println!("{:36} {:>8} {:>8} {:>6}   {:>8} {:>8} {:>6}", "", "library", "Rust", "ratio", "library", "Rust", "ratio");
     println!("{:36} {:>8} {:>8} {:>6}   {:>8} {:>8} {:>6}", "", "ns", "ns", "", "instr.", "instr.", "");
-    let mut dear = vec![];
-    for (work, (library_count, rust_count)) in works().iter_mut().zip(counted) {
-        let (library, rust) = work.times_of_both();
-        let (by_time, by_count) = (library / rust, library_count / rust_count);
-        let name = &work.name;
-        println!("{name:36} {library:8.1} {rust:8.1} {by_time:6.2}   {library_count:8.0} {rust_count:8.0} {by_count:6.2}");
-        if by_time > GOAL {
-            dear.push(format!("{name} {by_time:.2}"));
-        }
-    }
-    println!("dearer than {GOAL} times the Rust card, by time: {}", if dear.is_empty() { "none".to_string() } else { dear.join("; ") });
+    let mut works = works();
+    let ratios: Vec<f64> = works.iter_mut().zip(counted).map(|(work, counted)| print_line(work, counted)).collect();
+    let dear = ratios.iter().filter(|ratio| **ratio > GOAL).count();
+    println!("{dear} of {} lines are dearer than {GOAL} times the Rust card, by time", ratios.len());
 }

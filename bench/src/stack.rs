@@ -3,8 +3,8 @@
 use crate::calls::{Card, LIBRARY, PRINTOUT_BYTES, RUST};
 use crate::cases::{self, Case};
 use crate::random::Random;
+use crate::reader::Sent;
 use crate::scripts;
-use crate::sessions::Sent;
 use std::arch::asm;
 
 const STACK_BYTES: usize = 256 * 1024;
@@ -44,7 +44,7 @@ fn depth(stack: &mut Stack, mut call: impl FnMut(&mut Stack)) -> usize {
         call(stack);
         STACK_BYTES - stack.0.iter().position(|byte| *byte != paint).unwrap_or(STACK_BYTES)
     });
-    depths[0].max(depths[1])
+    depths[0].max(depths[1]).next_multiple_of(size_of::<usize>())
 }
 
 fn of_case(stack: &mut Stack, card: &Card, case: &Case) -> Option<usize> {
