@@ -2,8 +2,8 @@
 
 use crate::card::{self, Answer, FRESH};
 use crate::layout::{is_image, BlockBytes};
+use crate::player;
 use crate::record::{of_session, to_session, Record};
-use crate::script;
 
 pub const PRINTOUT_BYTES: usize = 65536;
 
@@ -78,5 +78,5 @@ unsafe extern "C" fn rust_field_reset(record: *mut Record, reply: *mut BlockByte
 }
 
 unsafe extern "C" fn rust_play(script: *const u8, script_len: usize, printout: *mut [u8; PRINTOUT_BYTES]) -> usize {
-    script::play(std::slice::from_raw_parts(script, script_len), &mut *printout)
+    player::play(std::slice::from_raw_parts(script, script_len), &mut *printout)
 }

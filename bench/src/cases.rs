@@ -6,6 +6,7 @@ use crate::layout::{blocks_of, bytes_of_mut, is_trailer, trailer_of, BLOCK_BYTES
 use crate::reader::Sent;
 use crate::record::{of_session, Record};
 use crate::rights::Key;
+use crate::scripts;
 use crate::value::Value;
 
 const TRANSPORT_TRAILER: [u8; 16] = [255, 255, 255, 255, 255, 255, 0xFF, 0x07, 0x80, 0x69, 255, 255, 255, 255, 255, 255];
@@ -63,10 +64,14 @@ impl Place {
         Place { image, sector, purse, full_purse: purse + 1, plain: purse + 2 }
     }
 
+    fn name(&self, what: &str) -> String {
+        let size = if self.image.len() == 1024 { "1K" } else { "4K" };
+        format!("{what}, {size}")
+    }
+
     fn case(&self, name: &str, session: Session, frames: &[&[u8]]) -> Case {
         let sent = frames.iter().map(|frame| Sent::Frame(frame.to_vec())).collect();
-        let size = if self.image.len() == 1024 { "1K" } else { "4K" };
-        Case { name: format!("{name}, {size}"), image: self.image.clone(), session: of_session(&session), sent }
+        Case { name: self.name(name), image: self.image.clone(), session: of_session(&session), sent }
     }
 
     fn holder(&self) -> Session {
@@ -136,8 +141,22 @@ impl Place {
     }
 }
 
+fn places() -> [Place; 2] {
+    [Place::new(1024, 1), Place::new(4096, 33)]
+}
+
+/// Scripts of so many rides, by name.
+pub fn ride_scripts(rides: usize) -> Vec<(String, Vec<u8>)> {
+    let script_of = |place: &Place| {
+        let ride = place.ride();
+        let events: Vec<&Sent> = (0..rides).flat_map(|_| &ride.sent).collect();
+        (place.name("printout of 1,000 events"), scripts::written(&ride.image, events))
+    };
+    places().iter().map(script_of).collect()
+}
+
 pub fn all() -> Vec<Case> {
-    let places = [Place::new(1024, 1), Place::new(4096, 33)];
+    let places = places();
     let rides = places.iter().map(Place::ride);
     let commands = places.iter().flat_map(Place::commands);
     let refusals = places.iter().flat_map(Place::refusals);

@@ -62,7 +62,13 @@ impl Cover {
         *self.met.get_mut(name).unwrap_or_else(|| panic!("{name} is not listed")) += 1;
     }
 
+    /// What was sent before has nothing to do with what comes next.
+    pub fn start_anew(&mut self) {
+        self.after_refused_authenticate = false;
+    }
+
     pub fn field_reset(&mut self) {
+        self.start_anew();
         self.meet(&command_name(FIELD_RESET));
     }
 

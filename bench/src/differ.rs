@@ -76,6 +76,7 @@ pub fn run(seed: u64, count: u64) -> bool {
 impl Differ {
     fn forged_calls(&mut self) -> bool {
         (0..CALLS_PER_IMAGE).all(|_| {
+            self.cover.start_anew();
             let session = sessions::forged(&mut self.random, self.rust.image());
             (self.library.session, self.rust.session) = (session, session);
             let awaited = sessions::awaited(&session);
@@ -86,6 +87,7 @@ impl Differ {
     }
 
     fn careless_run(&mut self) -> bool {
+        self.cover.start_anew();
         let mut reader = Reader::new(&mut self.random, self.rust.image());
         (0..CALLS_PER_IMAGE).all(|_| {
             let sent = reader.send(&mut self.random, self.rust.image());

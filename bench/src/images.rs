@@ -1,6 +1,6 @@
 //! Random images: right and wrong sizes, every kind of trailer, value blocks and what only looks like one.
 
-use crate::layout::{bytes_of_mut, is_image, is_trailer, BlockBytes, BLOCK_BYTES};
+use crate::layout::{bytes_of_mut, is_trailer, BlockBytes, BLOCK_BYTES};
 use crate::random::Random;
 use crate::value::Value;
 
@@ -20,7 +20,6 @@ pub fn any_size(random: &mut Random) -> Vec<u8> {
 
 pub fn right_size(random: &mut Random) -> Vec<u8> {
     let mut image = vec![0; random.pick(&[1024, 4096])];
-    debug_assert!(is_image(&image));
     for block in 0..image.len() / BLOCK_BYTES {
         let block = block as u8;
         *bytes_of_mut(&mut image, block) = if is_trailer(block) { trailer(random) } else { data(random) };

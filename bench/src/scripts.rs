@@ -3,6 +3,7 @@
 use crate::calls::{LIBRARY, PRINTOUT_BYTES, RUST};
 use crate::cover::ENOUGH;
 use crate::images;
+use crate::player::LONGEST_EVENT;
 use crate::random::Random;
 use crate::reader::{Reader, Sent};
 use std::collections::BTreeMap;
@@ -61,7 +62,10 @@ fn printed_by(player: &str, script: &[u8]) -> Vec<u8> {
 
 fn any(random: &mut Random) -> Vec<u8> {
     let event_count = random.pick(&[0, 1, 2, 7, 20, 60, 200, 1000]);
-    let script = lawful(random, event_count);
+    let image = images::right_size(random);
+    let mut reader = Reader::new(random, &image);
+    let events: Vec<Sent> = (0..event_count).map(|_| reader.send(random, &image)).collect();
+    let script = written(&image, &events);
     if random.percent(50) {
         script
     } else {
@@ -69,22 +73,19 @@ fn any(random: &mut Random) -> Vec<u8> {
     }
 }
 
-pub fn lawful(random: &mut Random, event_count: u16) -> Vec<u8> {
-    let image = images::right_size(random);
+/// The script of an image and events, a frame cut where it is longer than an event may be.
+pub fn written<'a>(image: &[u8], events: impl IntoIterator<Item = &'a Sent, IntoIter: ExactSizeIterator>) -> Vec<u8> {
+    let events = events.into_iter();
     let mut script = (image.len() as u16).to_le_bytes().to_vec();
-    script.extend(&image);
-    script.extend(event_count.to_le_bytes());
-    let mut reader = Reader::new(random, &image);
-    for _ in 0..event_count {
-        let event = match reader.send(random, &image) {
-            Sent::Frame(mut frame) => {
-                frame.truncate(18);
-                frame
-            }
-            Sent::FieldReset => vec![],
+    script.extend(image);
+    script.extend((events.len() as u16).to_le_bytes());
+    for event in events {
+        let bytes = match event {
+            Sent::Frame(frame) => &frame[..frame.len().min(LONGEST_EVENT)],
+            Sent::FieldReset => &[],
         };
-        script.push(event.len() as u8);
-        script.extend(event);
+        script.push(bytes.len() as u8);
+        script.extend(bytes);
     }
     script
 }

@@ -2,9 +2,8 @@
 
 use crate::calls::{Card, LIBRARY, PRINTOUT_BYTES, RUST};
 use crate::cases::{self, Case};
-use crate::random::Random;
 use crate::reader::Sent;
-use crate::scripts;
+use crate::speed::RIDES;
 use std::arch::asm;
 
 const STACK_BYTES: usize = 256 * 1024;
@@ -81,7 +80,8 @@ pub fn print_table() {
             println!("{:36} {library:8} {rust:8}", case.name);
         }
     }
-    let script = scripts::lawful(&mut Random::new(1), 1000);
-    let (library, rust) = (of_play(&mut stack, &LIBRARY, &script), of_play(&mut stack, &RUST, &script));
-    println!("{:36} {library:8} {rust:8}", "printout of 1,000 events");
+    for (name, script) in cases::ride_scripts(RIDES) {
+        let (library, rust) = (of_play(&mut stack, &LIBRARY, &script), of_play(&mut stack, &RUST, &script));
+        println!("{name:36} {library:8} {rust:8}");
+    }
 }

@@ -4,7 +4,7 @@ use crate::card::{self, Answer, Sign, FRESH};
 use crate::layout::{BlockBytes, BLOCK_BYTES};
 
 const MOST_EVENTS: usize = 1000;
-const LONGEST_EVENT: usize = 18;
+pub const LONGEST_EVENT: usize = 18;
 
 /// What is left to read of a script.
 struct Reader<'a>(&'a [u8]);
