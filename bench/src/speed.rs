@@ -7,9 +7,10 @@ use crate::layout::BlockBytes;
 use crate::record::Record;
 use std::time::Instant;
 
-const ROUNDS: usize = 15;
-const CALLS_PER_ROUND: u32 = 20_000;
-const PLAYS_PER_ROUND: u32 = 20;
+/// All work is done once in each round, so that a busy second of the machine does not fall on one piece of work alone.
+const ROUNDS: usize = 60;
+const CALLS_PER_ROUND: u32 = 4000;
+const PLAYS_PER_ROUND: u32 = 4;
 /// Of five frames each, for a script of 1,000 events.
 pub const RIDES: usize = 200;
 /// Nanoseconds that a time may be off: a ratio of times this short says nothing.
@@ -64,15 +65,10 @@ impl Work {
         began.elapsed().as_nanos() as f64 / f64::from(self.times)
     }
 
-    /// The shortest of many rounds for the library and the Rust card, in turns, less what the loop costs.
-    fn times_of_both(&mut self) -> (f64, f64) {
-        let mut least = [f64::MAX; 3];
-        for _ in 0..ROUNDS {
-            for (least, card) in least.iter_mut().zip([NOTHING, LIBRARY, RUST]) {
-                *least = least.min(self.nanoseconds(&card));
-            }
+    fn time_once(&mut self, least: &mut Times) {
+        for (least, card) in least.iter_mut().zip([NOTHING, LIBRARY, RUST]) {
+            *least = least.min(self.nanoseconds(&card));
         }
-        (least[1] - least[0], least[2] - least[0])
     }
 }
 
@@ -82,9 +78,12 @@ pub fn works() -> Vec<Work> {
     cases.chain(scripts).collect()
 }
 
-/// One line of the table; gives whether the library takes too long.
-fn print_line(work: &mut Work, (library_count, rust_count): (f64, f64)) -> bool {
-    let (library, rust) = work.times_of_both();
+/// The shortest nanoseconds of the empty card, the library and the Rust card.
+type Times = [f64; 3];
+
+/// One line of the table, times less what the loop costs; gives whether the library takes too long.
+fn print_line(work: &Work, times: Times, (library_count, rust_count): (f64, f64)) -> bool {
+    let (library, rust) = (times[1] - times[0], times[2] - times[0]);
     let (by_time, by_count) = (library / rust, library_count / rust_count);
     println!("{:36} {library:8.1} {rust:8.1} {by_time:6.2}   {library_count:8.0} {rust_count:8.0} {by_count:6.2}", work.name);
     library > GOAL * rust + NOISE
@@ -95,6 +94,11 @@ pub fn print_table() {
     println!("{:36} {:>8} {:>8} {:>6}   {:>8} {:>8} {:>6}", "", "library", "Rust", "ratio", "library", "Rust", "ratio");
     println!("{:36} {:>8} {:>8} {:>6}   {:>8} {:>8} {:>6}", "", "ns", "ns", "", "instr.", "instr.", "");
     let mut works = works();
-    let dear = works.iter_mut().zip(counted).map(|(work, counted)| print_line(work, counted)).filter(|dear| *dear).count();
+    let mut times = vec![[f64::MAX; 3]; works.len()];
+    for _ in 0..ROUNDS {
+        works.iter_mut().zip(&mut times).for_each(|(work, least)| work.time_once(least));
+    }
+    let lines = works.iter().zip(times).zip(counted);
+    let dear = lines.map(|((work, times), counted)| print_line(work, times, counted)).filter(|dear| *dear).count();
     println!("{dear} of {} lines are dearer than {GOAL} times the Rust card, by time", works.len());
 }
