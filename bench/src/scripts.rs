@@ -25,7 +25,8 @@ pub fn run(seed: u64, count: u64, player: &str) -> bool {
         let rust = RUST.play(&script, &mut by_rust);
         let library = LIBRARY.play(&script, &mut by_library);
         let program = printed_by(player, &script);
-        if by_rust[..rust] != by_library[..library] || by_rust[..rust] != program[..] {
+        // The rest of the buffer stays as it was, so the whole buffers agree too.
+        if rust != library || by_rust != by_library || by_rust[..rust] != program[..] {
             println!("difference at script {script_number} of seed {seed}");
             print_side("library", &by_library[..library]);
             print_side("player", &program);
