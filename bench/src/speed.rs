@@ -8,7 +8,7 @@ use crate::record::Record;
 use std::time::Instant;
 
 /// All work is done once in each round, so that a busy second of the machine does not fall on one piece of work alone.
-const ROUNDS: usize = 60;
+const ROUNDS: usize = 300;
 const CALLS_PER_ROUND: u32 = 4000;
 const PLAYS_PER_ROUND: u32 = 4;
 /// Of five frames each, for a script of 1,000 events.
