@@ -109,7 +109,7 @@ impl Differ {
             Sent::Frame(_) => self.cover.frame(met, self.rust.result as u8),
             Sent::FieldReset => self.cover.field_reset(),
         }
-        if self.calls % CALLS_PER_LINE == 0 {
+        if self.calls.is_multiple_of(CALLS_PER_LINE) {
             println!("{:8} calls, no difference; {}", self.calls, self.cover.line());
         }
         true
