@@ -84,17 +84,19 @@ pub fn trailer_row(bits: u8) -> TrailerRow
 pub fn allows(k: Keys, l: Letter) -> bool
     ensures { λ r. ⌜ r ≡ allowsOf k l ⌝ }
 {
-    match k {
-        Keys::Never => false,
-        Keys::OnlyA => match l {
-            Letter::KeyA => true,
-            Letter::KeyB => false,
+    match l {
+        Letter::KeyA => match k {
+            Keys::Never => false,
+            Keys::OnlyA => true,
+            Keys::OnlyB => false,
+            Keys::Either => true,
         },
-        Keys::OnlyB => match l {
-            Letter::KeyA => false,
-            Letter::KeyB => true,
+        Letter::KeyB => match k {
+            Keys::Never => false,
+            Keys::OnlyA => false,
+            Keys::OnlyB => true,
+            Keys::Either => true,
         },
-        Keys::Either => true,
     }
 }
 
@@ -156,9 +158,8 @@ pub fn is_readable(bits: u8) -> bool
 pub fn is_mute(l: Letter, bits: u8) -> bool
     ensures { λ r. ⌜ r ≡ muteOf l bits ⌝ }
 {
-    let readable = is_readable(bits);
     match l {
         Letter::KeyA => false,
-        Letter::KeyB => readable,
+        Letter::KeyB => is_readable(bits),
     }
 }

@@ -1,12 +1,11 @@
-// What an act reads from the image and what it does to it.
+// The sixteen bytes that a Read shows and that a Write stores.
 ghost use mathlib.Core.Path.{_≡_};
-ghost use Rattle.card.specs.Effects.{shownOf, replyOf, writtenOf, imageOf};
+ghost use Rattle.card.specs.Effects.{shownOf, writtenOf};
 use crate::trailer;
-use judge::Act;
 use layout::Block;
 use session::Auth;
 
-fn shown(image: &[u8], b: Block) -> [u8; 16]
+pub(crate) fn shown(image: &[u8], b: Block) -> [u8; 16]
     ensures { λ r. ⌜ r ≡ shownOf (now (image .entry)) b ⌝ }
 {
     let bytes = memory::content(image, b);
@@ -16,23 +15,8 @@ fn shown(image: &[u8], b: Block) -> [u8; 16]
     bytes
 }
 
-pub(crate) fn reply_of(image: &[u8], act: Act) -> [u8; 16]
-    ensures { λ r. ⌜ r ≡ replyOf (now (image .entry)) act ⌝ }
-{
-    match act {
-        Act::Refused(_) => [0u8; 16],
-        Act::Authenticated(_, _) => [0u8; 16],
-        Act::Shown(b) => shown(image, b),
-        Act::Waits(_) => [0u8; 16],
-        Act::Stored(_) => [0u8; 16],
-        Act::Loaded(_, _) => [0u8; 16],
-        Act::Moved(_, _, _) => [0u8; 16],
-        Act::Halted => [0u8; 16],
-    }
-}
-
-// The sixteen bytes that a Write stores.
-fn written(image: &[u8], auth: Auth, b: Block, frame: &[u8]) -> [u8; 16]
+// The frame's bytes, of a trailer only the parts that this key may write.
+pub(crate) fn written(image: &[u8], auth: Auth, b: Block, frame: &[u8]) -> [u8; 16]
     ensures { λ r. ⌜ r ≡ writtenOf (now (image .entry)) auth b (now (frame .entry)) ⌝ }
 {
     let new = memory::sixteen(frame);
@@ -40,24 +24,4 @@ fn written(image: &[u8], auth: Auth, b: Block, frame: &[u8]) -> [u8; 16]
         return trailer::written(auth, memory::content(image, b), new);
     }
     new
-}
-
-pub(crate) fn change(image: &mut [u8], auth: Auth, act: Act, frame: &[u8])
-    ensures { λ _. ⌜ now (image .exit) ≡ imageOf (now (image .entry)) auth act (now (frame .entry)) ⌝ }
-{
-    match act {
-        Act::Refused(_) => {}
-        Act::Authenticated(_, _) => {}
-        Act::Shown(_) => {}
-        Act::Waits(_) => {}
-        Act::Stored(b) => {
-            let bytes = written(&image[..], auth, b, frame);
-            memory::store(image, b, bytes);
-        }
-        Act::Loaded(_, _) => {}
-        Act::Moved(b, v, a) => {
-            memory::store(image, b, value::encode(v, a));
-        }
-        Act::Halted => {}
-    }
 }

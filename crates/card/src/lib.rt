@@ -44,19 +44,8 @@ pub fn step(image: &mut [u8], s: Session, frame: &[u8]) -> Answer
     ensures { λ r. ⌜ r ≡ answerOf (now (image .entry)) s (now (frame .entry)) ⌝ }
     ensures { λ _. ⌜ now (image .exit) ≡ imageAfter (now (image .entry)) s (now (frame .entry)) ⌝ }
 {
-    let auth = s.auth;
     let act = judge::judge(&image[..], s, frame);
-    let reply = effects::reply_of(&image[..], act);
-    effects::change(image, auth, act, frame);
-    let number = outcome::number_of(act);
-    let sign = outcome::sign_of(act);
-    let session = outcome::session_of(s, act);
-    Answer {
-        number,
-        sign,
-        reply,
-        session,
-    }
+    outcome::enact(image, s, act, frame)
 }
 
 // The reader's field went away and came back: always accepted, and no image is needed.

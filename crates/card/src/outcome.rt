@@ -1,27 +1,23 @@
-// The number, the sign and the session of an act.
+// What an act does: its answer, and what it does to the image.
 ghost use mathlib.Core.Path.{_≡_};
-ghost use Rattle.card.specs.Effects.{numberOf, refusedSign, signOf, sessionOf};
+ghost use Rattle.session.specs.Session.{freshOf};
+ghost use Rattle.session.specs.declared.Auth.the-variants.{As};
+ghost use Rattle.session.specs.declared.Stage.the-variants.{Idle};
+ghost use Rattle.session.specs.declared.Register.the-variants.{Empty, Full};
+ghost use Rattle.card.specs.Trailer.{zeros};
+ghost use Rattle.card.specs.Effects.{refusedSign, imageOf};
+ghost use Rattle.card.specs.Step.{answered};
+ghost use Rattle.card.specs.declared.Sign.the-variants.{Ack, Nothing, Data};
+use crate::Answer;
 use crate::Sign;
+use crate::effects;
+use access::Letter;
 use judge::Act;
+use layout::Sector;
 use session::Auth;
 use session::Register;
 use session::Session;
 use session::Stage;
-
-pub(crate) fn number_of(act: Act) -> u8
-    ensures { λ r. ⌜ r ≡ numberOf act ⌝ }
-{
-    match act {
-        Act::Refused(n) => n,
-        Act::Authenticated(_, _) => 0,
-        Act::Shown(_) => 0,
-        Act::Waits(_) => 0,
-        Act::Stored(_) => 0,
-        Act::Loaded(_, _) => 0,
-        Act::Moved(_, _, _) => 0,
-        Act::Halted => 0,
-    }
-}
 
 fn refused_sign(n: u8) -> Sign
     ensures { λ r. ⌜ r ≡ refusedSign n ⌝ }
@@ -32,50 +28,96 @@ fn refused_sign(n: u8) -> Sign
     Sign::Nak
 }
 
-pub(crate) fn sign_of(act: Act) -> Sign
-    ensures { λ r. ⌜ r ≡ signOf act ⌝ }
+fn refused(n: u8) -> Answer
+    ensures { λ r. ⌜ r ≡ record { number = n; sign = refusedSign n; reply = zeros; session = freshOf } ⌝ }
 {
-    match act {
-        Act::Refused(n) => refused_sign(n),
-        Act::Authenticated(_, _) => Sign::Ack,
-        Act::Shown(_) => Sign::Data,
-        Act::Waits(_) => Sign::Ack,
-        Act::Stored(_) => Sign::Ack,
-        Act::Loaded(_, _) => Sign::Nothing,
-        Act::Moved(_, _, _) => Sign::Ack,
-        Act::Halted => Sign::Nothing,
+    let sign = refused_sign(n);
+    let session = session::fresh();
+    Answer {
+        number: n,
+        sign,
+        reply: [0u8; 16],
+        session,
     }
 }
 
-pub(crate) fn session_of(s: Session, act: Act) -> Session
-    ensures { λ r. ⌜ r ≡ sessionOf s act ⌝ }
+fn accepted(sign: Sign, reply: [u8; 16], session: Session) -> Answer
+    ensures { λ r. ⌜ r ≡ record { number = 0; sign = sign; reply = reply; session = session } ⌝ }
+{
+    Answer {
+        number: 0,
+        sign,
+        reply,
+        session,
+    }
+}
+
+fn ack(session: Session) -> Answer
+    ensures { λ r. ⌜ r ≡ record { number = 0; sign = Ack; reply = zeros; session = session } ⌝ }
+{
+    accepted(Sign::Ack, [0u8; 16], session)
+}
+
+fn silent(session: Session) -> Answer
+    ensures { λ r. ⌜ r ≡ record { number = 0; sign = Nothing; reply = zeros; session = session } ⌝ }
+{
+    accepted(Sign::Nothing, [0u8; 16], session)
+}
+
+fn logged_in(t: Sector, l: Letter) -> Session
+    ensures { λ r. ⌜ r ≡ record { auth = As t l; stage = Idle; register = Empty } ⌝ }
+{
+    Session {
+        auth: Auth::As(t, l),
+        stage: Stage::Idle,
+        register: Register::Empty,
+    }
+}
+
+fn awaiting(s: Session, w: Stage) -> Session
+    ensures { λ r. ⌜ r ≡ record { auth = s .auth; stage = w; register = s .register } ⌝ }
 {
     let auth = s.auth;
     let register = s.register;
+    Session {
+        auth,
+        stage: w,
+        register,
+    }
+}
+
+fn loaded(s: Session, v: u32, a: u8) -> Session
+    ensures { λ r. ⌜ r ≡ record { auth = s .auth; stage = Idle; register = Full v a } ⌝ }
+{
+    let auth = s.auth;
+    Session {
+        auth,
+        stage: Stage::Idle,
+        register: Register::Full(v, a),
+    }
+}
+
+// The act is taken apart once: a case gives its answer, and stores where it has something to store.
+pub(crate) fn enact(image: &mut [u8], s: Session, act: Act, frame: &[u8]) -> Answer
+    ensures { λ r. ⌜ r ≡ answered (now (image .entry)) s act ⌝ }
+    ensures { λ _. ⌜ now (image .exit) ≡ imageOf (now (image .entry)) (s .auth) act (now (frame .entry)) ⌝ }
+{
+    let auth = s.auth;
     match act {
-        Act::Refused(_) => session::FRESH,
-        Act::Authenticated(t, l) => Session {
-            auth: Auth::As(t, l),
-            stage: Stage::Idle,
-            register: Register::Empty,
-        },
-        Act::Shown(_) => s,
-        Act::Waits(w) => Session {
-            auth,
-            stage: w,
-            register,
-        },
-        Act::Stored(_) => Session {
-            auth,
-            stage: Stage::Idle,
-            register,
-        },
-        Act::Loaded(v, a) => Session {
-            auth,
-            stage: Stage::Idle,
-            register: Register::Full(v, a),
-        },
-        Act::Moved(_, _, _) => s,
-        Act::Halted => session::FRESH,
+        Act::Refused(n) => refused(n),
+        Act::Authenticated(t, l) => ack(logged_in(t, l)),
+        Act::Shown(b) => accepted(Sign::Data, effects::shown(&image[..], b), s),
+        Act::Waits(w) => ack(awaiting(s, w)),
+        Act::Stored(b) => {
+            let bytes = effects::written(&image[..], auth, b, frame);
+            memory::store(image, b, bytes);
+            ack(awaiting(s, Stage::Idle))
+        }
+        Act::Loaded(v, a) => silent(loaded(s, v, a)),
+        Act::Moved(b, v, a) => {
+            memory::store(image, b, value::encode(v, a));
+            ack(s)
+        }
+        Act::Halted => silent(session::fresh()),
     }
 }

@@ -70,13 +70,11 @@ fn first_command(frame: &[u8]) -> Command
     ensures { λ r. ⌜ r ≡ firstOf (now (frame .entry)) ⌝ }
 {
     let n = frame.len();
-    let code = byte(frame, 0);
-    let block = byte(frame, 1);
     if n == 8 {
-        return eight(code, block);
+        return eight(frame[0], frame[1]);
     }
     if n == 2 {
-        return two(code, block);
+        return two(frame[0], frame[1]);
     }
     Command::Unknown
 }

@@ -28,6 +28,12 @@ enum-told-7 c = search needs
 enum-told-8 : tie.Need-enum-told-8
 enum-told-8 c = search needs
 
+enum-told-9 : tie.Need-enum-told-9
+enum-told-9 c = search needs
+
+enum-told-10 : tie.Need-enum-told-10
+enum-told-10 c = search needs
+
 returns : tie.Need-returns
 unfolding allowsOf
 returns c = cc
@@ -52,6 +58,14 @@ returns-6 : tie.Need-returns-6
 unfolding allowsOf
 returns-6 c = cc
 
+returns-7 : tie.Need-returns-7
+unfolding allowsOf
+returns-7 c = cc
+
+returns-8 : tie.Need-returns-8
+unfolding allowsOf
+returns-8 c = cc
+
 pub allows-spec : {M : Type 1} → statement M
 allows-spec =
     tie.close
@@ -64,9 +78,13 @@ allows-spec =
     enum-told-6
     enum-told-7
     enum-told-8
+    enum-told-9
+    enum-told-10
     returns
     returns-2
     returns-3
     returns-4
     returns-5
-    returns-6)
+    returns-6
+    returns-7
+    returns-8)

@@ -4,14 +4,14 @@ use borrow.Author.Needs.{needs}
 use Rattle.access.proofs.rights.is_mute.Statement.{statement}
 use Rattle.access.proofs.rights.is_mute.Tie as tie
 
-is-readable-requires : tie.Need-is-readable-requires
-is-readable-requires c κs = search needs
-
 enum-told : tie.Need-enum-told
 enum-told c = search needs
 
 enum-told-2 : tie.Need-enum-told-2
 enum-told-2 c = search needs
+
+is-readable-requires : tie.Need-is-readable-requires
+is-readable-requires c κs = search needs
 
 returns : tie.Need-returns
 unfolding muteOf
@@ -22,4 +22,4 @@ unfolding muteOf
 returns-2 c = cc
 
 pub is-mute-spec : {M : Type 1} → statement M
-is-mute-spec = tie.close (tie.spec is-readable-requires enum-told enum-told-2 returns returns-2)
+is-mute-spec = tie.close (tie.spec enum-told enum-told-2 is-readable-requires returns returns-2)
