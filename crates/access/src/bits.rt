@@ -1,7 +1,7 @@
 // The bits C1 C2 C3 of a group, from the three access bytes.
 ghost use mathlib.Core.Path.{_≡_};
 ghost use Prim.Native.Nat.{_<_, _+_, _*_, _/_, _%_};
-ghost use Rattle.access.specs.Bits.{accessBytesOf, wellFormed, groupBits, bitsOf};
+ghost use Rattle.access.specs.Bits.{accessBytesOf, wellFormed, bitsOf};
 use layout::Group;
 
 // Bytes 6, 7 and 8 of a trailer.
@@ -11,14 +11,6 @@ pub struct AccessBytes(pub u8, pub u8, pub u8);
 pub enum Bits {
     Blocked,
     Are(u8),
-}
-
-// The bits of all four groups.
-struct AllBits {
-    first: u8,
-    second: u8,
-    third: u8,
-    trailer: u8,
 }
 
 pub fn access_bytes_of(trailer: [u8; 16]) -> AccessBytes
@@ -48,42 +40,21 @@ fn bits_at(c1: u8, c2: u8, c3: u8, place: u8) -> u8
     4 * (c1 / place % 2) + 2 * (c2 / place % 2) + c3 / place % 2
 }
 
-fn split(x: AccessBytes) -> AllBits
-    ensures { λ r. ⌜ (r .first ≡ groupBits x Group.First) × (r .second ≡ groupBits x Group.Second) ⌝ }
-    ensures { λ r. ⌜ (r .third ≡ groupBits x Group.Third) × (r .trailer ≡ groupBits x Group.Trailer) ⌝ }
-{
-    let seven = x.1;
-    let eight = x.2;
-    let c1 = seven / 16;
-    let c2 = eight % 16;
-    let c3 = eight / 16;
-    let first = bits_at(c1, c2, c3, 1);
-    let second = bits_at(c1, c2, c3, 2);
-    let third = bits_at(c1, c2, c3, 4);
-    let trailer = bits_at(c1, c2, c3, 8);
-    AllBits {
-        first,
-        second,
-        third,
-        trailer,
-    }
-}
-
-// Blocked, or the bits of one group.
+// Blocked, or the bits of one group. The nibbles are tested first; then only that group's bits are picked out.
 pub fn bits_of(x: AccessBytes, g: Group) -> Bits
     ensures { λ r. ⌜ r ≡ bitsOf x g ⌝ }
 {
     if is_well_formed(x) {
-        let all = split(x);
-        let first = all.first;
-        let second = all.second;
-        let third = all.third;
-        let trailer = all.trailer;
+        let seven = x.1;
+        let eight = x.2;
+        let c1 = seven / 16;
+        let c2 = eight % 16;
+        let c3 = eight / 16;
         return match g {
-            Group::First => Bits::Are(first),
-            Group::Second => Bits::Are(second),
-            Group::Third => Bits::Are(third),
-            Group::Trailer => Bits::Are(trailer),
+            Group::First => Bits::Are(bits_at(c1, c2, c3, 1)),
+            Group::Second => Bits::Are(bits_at(c1, c2, c3, 2)),
+            Group::Third => Bits::Are(bits_at(c1, c2, c3, 4)),
+            Group::Trailer => Bits::Are(bits_at(c1, c2, c3, 8)),
         };
     }
     Bits::Blocked
