@@ -7,7 +7,7 @@ ghost use Rattle.session.specs.declared.Register.the-variants.{Empty, Full};
 ghost use Rattle.card.specs.Trailer.{zeros};
 ghost use Rattle.card.specs.Effects.{refusedSign, imageOf};
 ghost use Rattle.card.specs.Step.{answered};
-ghost use Rattle.card.specs.declared.Sign.the-variants.{Ack, Nothing, Data};
+ghost use Rattle.card.specs.declared.Sign.the-variants.{Ack, Nothing};
 use crate::Answer;
 use crate::Sign;
 use crate::effects;

@@ -18,7 +18,7 @@ ReadsBack value address = inRange value ≡ true → (v : ℕ) × (decodeOf (enc
 abbrev pub Rewritten : List ℕ → Type 0
 Rewritten block = (v address : ℕ) → decodeOf block ≡ Value v address → encodeOf (signed v) address ≡ block
 
--- any events of any run: what comes before an event fixes the session s′ and the image that it meets, and these fix its answer and what it leaves
+-- any event of any run: what comes before it fixes the session and the image that it meets, and these fix its answer and what it leaves
 pub record EventByEvent (image : List ℕ) (s : Session) (past : List (List ℕ)) (event : List ℕ) (future : List (List ℕ)) : Type 0 where
   pub answers :
       answersOf image s (past ++ (event ∷ future))

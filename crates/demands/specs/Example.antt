@@ -35,8 +35,9 @@ purse = record { 0 = 4 }
 abbrev pub other : Block
 other = record { 0 = 5 }
 
-abbrev pub ride : List ℕ
-ride = 1 ∷ 2 ∷ 3 ∷ 4 ∷ 5 ∷ 6 ∷ 7 ∷ 8 ∷ 9 ∷ 10 ∷ 11 ∷ 12 ∷ 13 ∷ 14 ∷ 15 ∷ 16 ∷ []
+-- what is written beside the purse
+abbrev pub rideRecord : List ℕ
+rideRecord = 1 ∷ 2 ∷ 3 ∷ 4 ∷ 5 ∷ 6 ∷ 7 ∷ 8 ∷ 9 ∷ 10 ∷ 11 ∷ 12 ∷ 13 ∷ 14 ∷ 15 ∷ 16 ∷ []
 
 unfoldable pub events : List (List ℕ)
 events =
@@ -52,7 +53,7 @@ events =
     -- authenticate again, write the block beside it, decrement by 3, transfer
     ∷ (0x60 ∷ 4 ∷ replicate 6 0xFF)
     ∷ (0xA0 ∷ 5 ∷ [])
-    ∷ ride
+    ∷ rideRecord
     ∷ (0xC0 ∷ 4 ∷ [])
     ∷ (3 ∷ 0 ∷ 0 ∷ 0 ∷ [])
     ∷ (0xB0 ∷ 4 ∷ [])
@@ -65,4 +66,4 @@ pub record NotEmpty : Type 0 where
   pub numbers : map (λ (a : Answer). a .number) (answersOf purseCard freshOf events) ≡ 0 ∷ 0 ∷ 0 ∷ 0 ∷ 0 ∷ 0 ∷ 10 ∷ 0 ∷ 0 ∷ 0 ∷ 0 ∷ 0 ∷ 0 ∷ []
   pub counted : booksAfter purse purseCard freshOf opened events .counted ≡ pos 2
   pub ends : decodeOf (contentOf (runImage purseCard freshOf events) purse) ≡ Value 102 4
-  pub written : contentOf (runImage purseCard freshOf events) other ≡ ride
+  pub written : contentOf (runImage purseCard freshOf events) other ≡ rideRecord
