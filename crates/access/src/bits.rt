@@ -19,17 +19,16 @@ pub fn access_bytes_of(trailer: [u8; 16]) -> AccessBytes
     AccessBytes(trailer[6], trailer[7], trailer[8])
 }
 
-// Each of the three nibbles agrees with its inverse.
+// Each of the three nibbles agrees with its inverse. Byte 6 has the inverses of C2 and C1 side by side, so both are compared at once.
 fn is_well_formed(x: AccessBytes) -> bool
     ensures { λ r. ⌜ r ≡ wellFormed x ⌝ }
 {
     let six = x.0;
     let seven = x.1;
     let eight = x.2;
-    let c1 = seven / 16 + six % 16 == 15;
-    let c2 = eight % 16 + six / 16 == 15;
+    let c2_c1 = 16 * (eight % 16) + seven / 16;
     let c3 = eight / 16 + seven % 16 == 15;
-    c1 & c2 & c3
+    (six == 255 - c2_c1) & c3
 }
 
 // The bits that stand at one place of three nibbles; the place counts 1, 2, 4 or 8.

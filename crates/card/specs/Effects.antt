@@ -3,20 +3,21 @@ use mathlib.Core.Bool.{cond, _||_}
 use mathlib.Core.List.{List}
 use Prim.Native.Nat.{ℕ}
 use lib.Dec.{eqb}
-use Rattle.layout.specs.Layout.{isTrailer}
 use Rattle.layout.specs.declared.Block.{Block}
 use Rattle.memory.specs.Memory.{sixteenOf, contentOf, storeOf}
+use Rattle.access.specs.Rights.{readableOf}
 use Rattle.value.specs.Whole.{signed}
 use Rattle.value.specs.Block.{encodeOf}
 use Rattle.session.specs.Session.{freshOf}
 use Rattle.session.specs.declared.Auth.{Auth}
 use Rattle.session.specs.declared.Auth.the-variants.{As}
-use Rattle.session.specs.declared.Stage.the-variants.{Idle}
+use Rattle.session.specs.declared.Stage.the-variants as stage
 use Rattle.session.specs.declared.Register.the-variants.{Empty, Full}
 use Rattle.session.specs.declared.Session.{Session}
 use Rattle.judge.specs.declared.Act.{Act}
-use Rattle.judge.specs.declared.Act.the-variants.{Refused, Authenticated, Shown, Waits, Stored, Loaded, Moved, Halted}
-use Rattle.card.specs.Trailer.{zeros, ownBits, shownTrailer, writableBy, mixedOf}
+use Rattle.judge.specs.declared.Act.the-variants.{Refused, Authenticated, Shown, TrailerShown, WriteWaits, ValueWaits, Stored, TrailerStored, Loaded, Moved, Halted}
+use Rattle.judge.specs.Grant.{writableBy}
+use Rattle.card.specs.Trailer.{zeros, shownTrailer, mixedOf}
 use Rattle.card.specs.declared.Sign.{Sign}
 use Rattle.card.specs.declared.Sign.the-variants.{Ack, Nak, Data, Nothing}
 
@@ -25,8 +26,11 @@ unfoldable pub numberOf : Act → ℕ
 numberOf (Refused n) = n
 numberOf (Authenticated t l) = 0
 numberOf (Shown b) = 0
-numberOf (Waits w) = 0
+numberOf (TrailerShown b m) = 0
+numberOf (WriteWaits b) = 0
+numberOf (ValueWaits b k) = 0
 numberOf (Stored b) = 0
+numberOf (TrailerStored b m) = 0
 numberOf (Loaded v a) = 0
 numberOf (Moved b v a) = 0
 numberOf Halted = 0
@@ -39,8 +43,11 @@ unfoldable pub signOf : Act → Sign
 signOf (Refused n) = refusedSign n
 signOf (Authenticated t l) = Ack
 signOf (Shown b) = Data
-signOf (Waits w) = Ack
+signOf (TrailerShown b m) = Data
+signOf (WriteWaits b) = Ack
+signOf (ValueWaits b k) = Ack
 signOf (Stored b) = Ack
+signOf (TrailerStored b m) = Ack
 signOf (Loaded v a) = Nothing
 signOf (Moved b v a) = Ack
 signOf Halted = Nothing
@@ -52,17 +59,16 @@ signCode Nak = 1
 signCode Data = 2
 signCode Nothing = 3
 
--- the block as a Read shows it
-unfoldable pub shownOf : List ℕ → Block → List ℕ
-shownOf image b = cond (isTrailer b) (shownTrailer (contentOf image b)) (contentOf image b)
-
--- the sixteen reply bytes: zeros but for an accepted Read
+-- the sixteen reply bytes: zeros but for an accepted Read, which shows its block; a trailer as its bits m say
 unfoldable pub replyOf : List ℕ → Act → List ℕ
 replyOf image (Refused n) = zeros
 replyOf image (Authenticated t l) = zeros
-replyOf image (Shown b) = shownOf image b
-replyOf image (Waits w) = zeros
+replyOf image (Shown b) = contentOf image b
+replyOf image (TrailerShown b m) = shownTrailer (readableOf m) (contentOf image b)
+replyOf image (WriteWaits b) = zeros
+replyOf image (ValueWaits b k) = zeros
 replyOf image (Stored b) = zeros
+replyOf image (TrailerStored b m) = zeros
 replyOf image (Loaded v a) = zeros
 replyOf image (Moved b v a) = zeros
 replyOf image Halted = zeros
@@ -70,27 +76,28 @@ replyOf image Halted = zeros
 -- the session afterwards
 unfoldable pub sessionOf : Session → Act → Session
 sessionOf s (Refused n) = freshOf
-sessionOf s (Authenticated t l) = record { auth = As t l; stage = Idle; register = Empty }
+sessionOf s (Authenticated t l) = record { auth = As t l; stage = stage.Idle; register = Empty }
 sessionOf s (Shown b) = s
-sessionOf s (Waits w) = record { auth = s .auth; stage = w; register = s .register }
-sessionOf s (Stored b) = record { auth = s .auth; stage = Idle; register = s .register }
-sessionOf s (Loaded v a) = record { auth = s .auth; stage = Idle; register = Full v a }
+sessionOf s (TrailerShown b m) = s
+sessionOf s (WriteWaits b) = record { auth = s .auth; stage = stage.WriteWaits b; register = s .register }
+sessionOf s (ValueWaits b k) = record { auth = s .auth; stage = stage.ValueWaits k b; register = s .register }
+sessionOf s (Stored b) = record { auth = s .auth; stage = stage.Idle; register = s .register }
+sessionOf s (TrailerStored b m) = record { auth = s .auth; stage = stage.Idle; register = s .register }
+sessionOf s (Loaded v a) = record { auth = s .auth; stage = stage.Idle; register = Full v a }
 sessionOf s (Moved b v a) = s
 sessionOf s Halted = freshOf
 
--- the sixteen bytes that a Write stores: the frame's, of a trailer only the parts that this key may write
-unfoldable pub writtenOf : List ℕ → Auth → Block → List ℕ → List ℕ
-writtenOf image auth b frame =
-    cond (isTrailer b) (mixedOf (writableBy auth (ownBits (contentOf image b))) (contentOf image b) (sixteenOf frame))
-    (sixteenOf frame)
-
--- the image afterwards: a Write's second frame and a Transfer store into their block, nothing else stores
+-- the image afterwards: a Write's second frame and a Transfer store into their block, nothing else stores.
+-- A Write stores the sixteen bytes of its frame; of a trailer with the bits m, only the parts that the session may write
 unfoldable pub imageOf : List ℕ → Auth → Act → List ℕ → List ℕ
 imageOf image auth (Refused n) frame = image
 imageOf image auth (Authenticated t l) frame = image
 imageOf image auth (Shown b) frame = image
-imageOf image auth (Waits w) frame = image
-imageOf image auth (Stored b) frame = storeOf image b (writtenOf image auth b frame)
+imageOf image auth (TrailerShown b m) frame = image
+imageOf image auth (WriteWaits b) frame = image
+imageOf image auth (ValueWaits b k) frame = image
+imageOf image auth (Stored b) frame = storeOf image b (sixteenOf frame)
+imageOf image auth (TrailerStored b m) frame = storeOf image b (mixedOf (writableBy auth m) (contentOf image b) (sixteenOf frame))
 imageOf image auth (Loaded v a) frame = image
 imageOf image auth (Moved b v a) frame = storeOf image b (encodeOf (signed v) a)
 imageOf image auth Halted frame = image

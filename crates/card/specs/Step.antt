@@ -1,6 +1,9 @@
 -- One frame and one field reset, whole.
+use mathlib.Core.Bool.{cond}
 use mathlib.Core.List.{List}
 use Prim.Native.Nat.{ℕ}
+use lib.Dec.{eqb}
+use Rattle.layout.specs.Layout.{sectorsOf}
 use Rattle.session.specs.Session.{freshOf}
 use Rattle.session.specs.declared.Session.{Session}
 use Rattle.judge.specs.Judge.{judgeOf}
@@ -25,3 +28,8 @@ imageAfter image s frame = imageOf image (s .auth) (judgeOf image s frame) frame
 -- the answer to a field reset: always accepted, silent, the session fresh
 abbrev pub resetOf : Answer
 resetOf = record { number = 0; sign = Nothing; reply = zeros; session = freshOf }
+
+-- the answer to any frame where there is no session to go by: 12, or 11 where there is no card either
+unfoldable pub noSessionOf : ℕ → Answer
+noSessionOf bytes =
+    record { number = cond (eqb (sectorsOf bytes) 0) 11 12; sign = Nothing; reply = zeros; session = freshOf }

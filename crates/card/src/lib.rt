@@ -2,9 +2,8 @@
 ghost use mathlib.Core.Path.{_≡_};
 ghost use Prim.Native.Nat.{_<_};
 ghost use Rattle.card.specs.Effects.{signCode};
-ghost use Rattle.card.specs.Step.{answerOf, imageAfter, resetOf};
+ghost use Rattle.card.specs.Step.{answerOf, imageAfter, resetOf, noSessionOf};
 
-mod effects;
 mod outcome;
 mod trailer;
 
@@ -58,5 +57,16 @@ pub fn field_reset() -> Answer
         sign: Sign::Nothing,
         reply: [0u8; 16],
         session,
+    }
+}
+
+// The answer to any frame where there is no session to go by: for an image of so many bytes, which stays as it is.
+pub fn no_session(bytes: usize) -> Answer
+    ensures { λ r. ⌜ r ≡ noSessionOf bytes ⌝ }
+{
+    if layout::sectors_of(bytes) == 0 {
+        outcome::refused(11)
+    } else {
+        outcome::refused(12)
     }
 }

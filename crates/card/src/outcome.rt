@@ -10,7 +10,7 @@ ghost use Rattle.card.specs.Step.{answered};
 ghost use Rattle.card.specs.declared.Sign.the-variants.{Ack, Nothing};
 use crate::Answer;
 use crate::Sign;
-use crate::effects;
+use crate::trailer;
 use access::Letter;
 use judge::Act;
 use layout::Sector;
@@ -28,7 +28,7 @@ fn refused_sign(n: u8) -> Sign
     Sign::Nak
 }
 
-fn refused(n: u8) -> Answer
+pub(crate) fn refused(n: u8) -> Answer
     ensures { λ r. ⌜ r ≡ record { number = n; sign = refusedSign n; reply = zeros; session = freshOf } ⌝ }
 {
     let sign = refused_sign(n);
@@ -106,11 +106,28 @@ pub(crate) fn enact(image: &mut [u8], s: Session, act: Act, frame: &[u8]) -> Ans
     match act {
         Act::Refused(n) => refused(n),
         Act::Authenticated(t, l) => ack(logged_in(t, l)),
-        Act::Shown(b) => accepted(Sign::Data, effects::shown(&image[..], b), s),
-        Act::Waits(w) => ack(awaiting(s, w)),
+        Act::Shown(b) => accepted(Sign::Data, memory::content(&image[..], b), s),
+        Act::TrailerShown(b, m) => {
+            let trailer = memory::content(&image[..], b);
+            accepted(
+                Sign::Data,
+                trailer::shown(trailer, access::is_readable(m)),
+                s,
+            )
+        }
+        Act::WriteWaits(b) => ack(awaiting(s, Stage::WriteWaits(b))),
+        Act::ValueWaits(b, k) => ack(awaiting(s, Stage::ValueWaits(k, b))),
         Act::Stored(b) => {
-            let bytes = effects::written(&image[..], auth, b, frame);
-            memory::store(image, b, bytes);
+            memory::store(image, b, memory::sixteen(frame));
+            ack(awaiting(s, Stage::Idle))
+        }
+        Act::TrailerStored(b, m) => {
+            let old = memory::content(&image[..], b);
+            memory::store(
+                image,
+                b,
+                trailer::written(auth, m, old, memory::sixteen(frame)),
+            );
             ack(awaiting(s, Stage::Idle))
         }
         Act::Loaded(v, a) => silent(loaded(s, v, a)),

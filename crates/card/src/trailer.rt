@@ -1,24 +1,55 @@
-// A trailer as it is read and as it is written.
+// A trailer in its parts: as it is read and as it is written.
 ghost use mathlib.Core.Path.{_≡_};
 ghost use mathlib.Core.Bool.{cond};
-ghost use Rattle.card.specs.Trailer.{joinOf, ownBits, readableIn, shownTrailer, writableBy, mixedOf};
-use access::Bits;
+ghost use Prim.Native.Nat.{_-_, _≤_};
+ghost use Rattle.judge.specs.Grant.{writableBy};
+ghost use Rattle.card.specs.Trailer.{joinOf, shownTrailer, mixedOf, patchedOf};
 use access::Parts;
-use layout::Group;
 use session::Auth;
 
-fn own_bits(trailer: [u8; 16]) -> Bits
-    ensures { λ r. ⌜ r ≡ ownBits trailer ⌝ }
+// The bytes x, but from one place up to another those of y.
+fn patched(x: [u8; 16], y: [u8; 16], from: usize, to: usize) -> [u8; 16]
+    requires { ⌜ (from ≤ to) × (to ≤ 16) ⌝ }
+    ensures { λ r. ⌜ r ≡ patchedOf x y from (to - from) ⌝ }
 {
-    access::bits_of(access::access_bytes_of(trailer), Group::Trailer)
+    let mut bytes = x;
+    let mut i = from;
+    while i < to {
+        bytes[i] = y[i];
+        i += 1;
+    }
+    bytes
 }
 
-fn is_readable(own: Bits) -> bool
-    ensures { λ r. ⌜ r ≡ readableIn own ⌝ }
+// Key A of one, bytes 6 to 9 of another, key B of a third.
+fn join(p: [u8; 16], q: [u8; 16], r: [u8; 16]) -> [u8; 16]
+    ensures { λ x. ⌜ x ≡ joinOf p q r ⌝ }
 {
-    match own {
-        Bits::Blocked => false,
-        Bits::Are(n) => access::is_readable(n),
+    patched(patched(r, p, 0, 6), q, 6, 10)
+}
+
+// Without key A, and without key B unless it can be read.
+pub(crate) fn shown(trailer: [u8; 16], readable: bool) -> [u8; 16]
+    ensures { λ r. ⌜ r ≡ shownTrailer readable trailer ⌝ }
+{
+    let none = [0u8; 16];
+    if readable {
+        patched(trailer, none, 0, 6)
+    } else {
+        patched(patched(trailer, none, 0, 6), none, 10, 16)
+    }
+}
+
+fn writable_by(auth: Auth, m: u8) -> Parts
+    ensures { λ r. ⌜ r ≡ writableBy auth m ⌝ }
+{
+    match auth {
+        Auth::Nobody => Parts {
+            a: false,
+            bits: false,
+            b: false,
+        },
+        Auth::As(_, l) => access::writable(l, m),
     }
 }
 
@@ -26,60 +57,6 @@ fn choose(first: bool, x: [u8; 16], y: [u8; 16]) -> [u8; 16]
     ensures { λ r. ⌜ r ≡ cond first x y ⌝ }
 {
     if first { x } else { y }
-}
-
-// Key A of one, bytes 6 to 9 of another, key B of a third.
-fn join(p: [u8; 16], q: [u8; 16], r: [u8; 16]) -> [u8; 16]
-    ensures { λ x. ⌜ x ≡ joinOf p q r ⌝ }
-{
-    [
-        p[0],
-        p[1],
-        p[2],
-        p[3],
-        p[4],
-        p[5],
-        q[6],
-        q[7],
-        q[8],
-        q[9],
-        r[10],
-        r[11],
-        r[12],
-        r[13],
-        r[14],
-        r[15],
-    ]
-}
-
-// Without key A, and without key B unless it can be read.
-pub(crate) fn shown(trailer: [u8; 16]) -> [u8; 16]
-    ensures { λ r. ⌜ r ≡ shownTrailer trailer ⌝ }
-{
-    let none = [0u8; 16];
-    let readable = is_readable(own_bits(trailer));
-    let b = choose(readable, trailer, none);
-    join(none, trailer, b)
-}
-
-fn writable_by(auth: Auth, own: Bits) -> Parts
-    ensures { λ r. ⌜ r ≡ writableBy auth own ⌝ }
-{
-    let Auth::As(_, l) = auth else {
-        return Parts {
-            a: false,
-            bits: false,
-            b: false,
-        };
-    };
-    let Bits::Are(n) = own else {
-        return Parts {
-            a: false,
-            bits: false,
-            b: false,
-        };
-    };
-    access::writable(l, n)
 }
 
 // The parts that may be written are new, and the rest is kept.
@@ -92,8 +69,9 @@ fn mixed(p: Parts, old: [u8; 16], new: [u8; 16]) -> [u8; 16]
     join(a, bits, b)
 }
 
-pub(crate) fn written(auth: Auth, old: [u8; 16], new: [u8; 16]) -> [u8; 16]
-    ensures { λ r. ⌜ r ≡ mixedOf (writableBy auth (ownBits old)) old new ⌝ }
+// A trailer with the bits m, as a session writes it.
+pub(crate) fn written(auth: Auth, m: u8, old: [u8; 16], new: [u8; 16]) -> [u8; 16]
+    ensures { λ r. ⌜ r ≡ mixedOf (writableBy auth m) old new ⌝ }
 {
-    mixed(writable_by(auth, own_bits(old)), old, new)
+    mixed(writable_by(auth, m), old, new)
 }

@@ -1,12 +1,14 @@
 -- Demand 1: the judgement of a frame goes by the table, row by row.
 -- Assumes nothing.
 use mathlib.Core.Path.{_≡_, refl, _∙_, ap}
-use mathlib.Core.Bool.{Bool, true, false, cond}
+use mathlib.Core.Bool.{Bool, true, false, _&&_, cond}
 use mathlib.Core.List.{List, [], _∷_}
 use Prim.Native.Nat.{ℕ}
-use Rattle.layout.specs.Layout.{sectorOf}
+use Rattle.layout.specs.Layout.{sectorOf, isTrailer}
 use Rattle.layout.specs.declared.Block.{Block}
 use Rattle.memory.specs.Memory.{contentOf}
+use Rattle.access.specs.declared.rights.Operation.the-variants as column
+use Rattle.access.specs.declared.rights.Parts.{Parts}
 use Rattle.value.specs.Block.{bitsIn, addressIn}
 use Rattle.value.specs.declared.sum.Total.{Total}
 use Rattle.value.specs.declared.sum.Total.the-variants.{Fits, Outside}
@@ -16,15 +18,15 @@ use Rattle.session.specs.declared.Register.{Register}
 use Rattle.session.specs.declared.Register.the-variants.{Empty, Full}
 use Rattle.session.specs.declared.Session.{Session}
 use Rattle.frame.specs.Command.{commandOf}
-use Rattle.frame.specs.declared.Deed.{Deed}
-use Rattle.frame.specs.declared.Deed.the-variants.{Read, Write, Store, Begin, Apply, Transfer}
 use Rattle.frame.specs.declared.Command.{Command}
-use Rattle.frame.specs.declared.Command.the-variants.{Unknown, Authenticate, Memory, Halt}
+use Rattle.frame.specs.declared.Command.the-variants.{Unknown, Authenticate, Read, Write, Store, Begin, Apply, Transfer, Halt}
 use Rattle.judge.specs.First.{Check, check, first, ruled}
-use Rattle.judge.specs.Checks.{columnOf, memoryChecks, checksOf, authenticateChecks, frameChecks}
-use Rattle.judge.specs.Judge.{totalFor, loadOf, appliedOf, moveOf, doneOf, commandedOf, judgeOf}
+use Rattle.judge.specs.Checks.{memoryChecks, checksOf, authenticateChecks, frameChecks}
+use Rattle.judge.specs.Grant.{trailerGrant, grantOf}
+use Rattle.judge.specs.Judge.{totalFor, loadOf, appliedOf, moveOf, shownAs, storedAs, doneOf, commandedOf, judgeOf}
+use Rattle.judge.specs.declared.checks.Verdict.the-variants.{Whole, InParts}
 use Rattle.judge.specs.declared.Act.{Act}
-use Rattle.judge.specs.declared.Act.the-variants.{Refused, Authenticated, Shown, Stored, Loaded, Moved, Halted}
+use Rattle.judge.specs.declared.Act.the-variants.{Refused, Authenticated, Loaded, Moved, Halted}
 use Rattle.card.specs.Effects.{numberOf, refusedSign, signOf, replyOf, sessionOf, imageOf}
 use Rattle.card.specs.Step.{answered, answerOf, imageAfter}
 use Rattle.demands.specs.Demand1.{Row, row, tableFor, table, Met, here, below, Demand1}
@@ -80,10 +82,10 @@ module _ (image : List ℕ) (s : Session) (frame : List ℕ) where
   both cs act = by-rows (frameChecks image s) _ ∙ ap (rule (rowsOf (frameChecks image s))) (by-rows cs act)
 
   module _ (b : Block) where
-    applied : (k : Kind) (t : Total) → totalFor k (bitsIn (contentOf image b)) (bitsIn frame) ≡ t → Follows (Memory (Apply k) b)
-    unfolding numberOf commandedOf frameChecks checksOf memoryChecks columnOf doneOf appliedOf loadOf
-    applied k (Fits v) e = (Loaded v (addressIn (contentOf image b)), refl, rw e (both (checksOf image s (Apply k) b) _))
-    applied k Outside e = (Halted, refl, rw e (both (checksOf image s (Apply k) b) _))
+    applied : (k : Kind) (t : Total) → totalFor k (bitsIn (contentOf image b)) (bitsIn frame) ≡ t → Follows (Apply b k)
+    unfolding numberOf commandedOf frameChecks checksOf memoryChecks doneOf appliedOf loadOf
+    applied k (Fits v) e = (Loaded v (addressIn (contentOf image b)), refl, rw e (both (checksOf image s (Apply b k) frame) _))
+    applied k Outside e = (Halted, refl, rw e (both (checksOf image s (Apply b k) frame) _))
 
     -- past 9 the register is full
     past-nine : (r : Register) → (act : Act) × (numberOf act ≡ 0) × (cond (isEmpty r) (Refused 9) (moveOf r b) ≡ cond (isEmpty r) (Refused 9) act)
@@ -91,27 +93,38 @@ module _ (image : List ℕ) (s : Session) (frame : List ℕ) where
     past-nine Empty = (Halted, refl, refl)
     past-nine (Full v a) = (Moved b v a, refl, refl)
 
-    moved : Follows (Memory Transfer b)
-    unfolding commandedOf frameChecks checksOf memoryChecks columnOf doneOf
+    moved : Follows (Transfer b)
+    unfolding commandedOf frameChecks checksOf memoryChecks doneOf
     moved =
         let n = past-nine (s .register) in
-        let last : Act → Act = λ x. rule (rowsOf (frameChecks image s)) (rule (rowsOf (memoryChecks image (s .auth) (columnOf Transfer) b)) x) in
-        (n .0, n .1, both (checksOf image s Transfer b) _ ∙ ap last (n .2))
+        let last : Act → Act = λ x. rule (rowsOf (frameChecks image s)) (rule (rowsOf (memoryChecks image (s .auth) column.Decrement b)) x) in
+        (n .0, n .1, both (checksOf image s (Transfer b) frame) _ ∙ ap last (n .2))
 
-    deed : (d : Deed) → Follows (Memory d b)
-    unfolding numberOf commandedOf frameChecks checksOf memoryChecks columnOf doneOf
-    deed Read = (Shown b, refl, both (checksOf image s Read b) _)
-    deed Write = (_, refl, both (checksOf image s Write b) _)
-    deed Store = (Stored b, refl, both (checksOf image s Store b) _)
-    deed (Begin k) = (_, refl, both (checksOf image s (Begin k) b) _)
-    deed (Apply k) = applied k (totalFor k (bitsIn (contentOf image b)) (bitsIn frame)) refl
-    deed Transfer = moved
+    -- what is granted of a block is shown or stored, and no refusal
+    shown-0 : (t : Bool) (p : Parts) (m : ℕ) → numberOf (shownAs b (cond t (trailerGrant column.Read p m) Whole)) ≡ 0
+    unfolding numberOf shownAs trailerGrant
+    shown-0 true p m = refl
+    shown-0 false p m = refl
+
+    stored-0 : (t : Bool) (p : Parts) (m : ℕ) → numberOf (storedAs b (cond t (trailerGrant column.Write p m) Whole)) ≡ 0
+    unfolding numberOf storedAs trailerGrant
+    stored-0 true p m = part (p .a && p .bits && p .b)
+      where
+        part : (all : Bool) → numberOf (storedAs b (cond all Whole (InParts m))) ≡ 0
+        part true = refl
+        part false = refl
+    stored-0 false p m = refl
 
   follows : (c : Command) → Follows c
-  unfolding numberOf commandedOf frameChecks authenticateChecks
+  unfolding numberOf commandedOf frameChecks checksOf authenticateChecks memoryChecks grantOf doneOf first ruled
   follows Unknown = (Halted, refl, by-rows (frameChecks image s) _)
-  follows (Authenticate l b) = (Authenticated (sectorOf b) l, refl, both (authenticateChecks image l b frame) _)
-  follows (Memory d b) = deed b d
+  follows (Authenticate b l) = (Authenticated (sectorOf b) l, refl, both (authenticateChecks image l b frame) _)
+  follows (Read b) = (_, shown-0 b (isTrailer b) _ _, both (checksOf image s (Read b) frame) _)
+  follows (Write b) = (_, refl, both (checksOf image s (Write b) frame) _)
+  follows (Store b) = (_, stored-0 b (isTrailer b) _ _, both (checksOf image s (Store b) frame) _)
+  follows (Begin b k) = (_, refl, both (checksOf image s (Begin b k) frame) _)
+  follows (Apply b k) = applied b k (totalFor k (bitsIn (contentOf image b)) (bitsIn frame)) refl
+  follows (Transfer b) = moved b
   follows Halt = (Halted, refl, by-rows (frameChecks image s) _)
 
   signs : (c : Command) → Signed (tableFor image s frame c)

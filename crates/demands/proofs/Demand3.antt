@@ -25,14 +25,15 @@ use Rattle.session.specs.declared.Register.{Register}
 use Rattle.session.specs.declared.Register.the-variants.{Full}
 use Rattle.session.specs.declared.Session.{Session}
 use Rattle.frame.specs.Command.{blockAt}
+use Rattle.judge.specs.Grant.{writableBy}
 use Rattle.judge.specs.Judge.{totalFor, judgeOf}
 use Rattle.judge.specs.declared.Act.{Act}
-use Rattle.judge.specs.declared.Act.the-variants.{Refused, Authenticated, Shown, Waits, Stored, Loaded, Moved, Halted}
+use Rattle.judge.specs.declared.Act.the-variants.{Refused, Authenticated, Shown, TrailerShown, WriteWaits, ValueWaits, Stored, TrailerStored, Loaded, Moved, Halted}
 use Rattle.card.specs.Effects.{sessionOf, imageOf}
 use Rattle.card.specs.Step.{answered, answerOf, imageAfter, resetOf}
 use Rattle.laws.specs.Accepted.{Accepted, Load}
 use Rattle.laws.proofs.Sound.{sound}
-use Rattle.laws.proofs.Lengths.{written-length}
+use Rattle.laws.proofs.Lengths.{sixteen-length, mixed-length}
 use Rattle.play.specs.Run.{eventAnswer, eventImage, sessionAfter, runImage}
 use Rattle.demands.specs.Demand3.{Held, foreign, load, Books, opened, changeOf, loadFor, transferred, holding, booked, actOf, booksAfter, Demand3}
 
@@ -142,8 +143,11 @@ module _ (b : Block) (v a : ℕ) where
     step (Refused n) h f = empties image (s .register) _ k t
     step (Authenticated u l) h f = empties image (s .register) _ k t
     step (Shown c) h f = t
-    step (Waits w) h f = t
-    step (Stored c) h f = writes c _ (written-length image (s .auth) c frame) f
+    step (TrailerShown c m) h f = t
+    step (WriteWaits c) h f = t
+    step (ValueWaits c j) h f = t
+    step (Stored c) h f = writes c _ (sixteen-length frame) f
+    step (TrailerStored c m) h f = writes c _ (mixed-length (writableBy (s .auth) m) image c frame) f
     step (Loaded x d) h f = loads x d h
     step (Moved c x d) h f = moves c x d (h .1 .has) (h .2) f
     step Halted h f = empties image (s .register) _ k t
@@ -169,8 +173,11 @@ module _ (b : Block) (v a : ℕ) where
   booked-fair s e (Refused n) k f = f
   booked-fair s e (Authenticated t l) k f = f
   booked-fair s e (Shown c) k f = f
-  booked-fair s e (Waits w) k f = f
+  booked-fair s e (TrailerShown c m) k f = f
+  booked-fair s e (WriteWaits c) k f = f
+  booked-fair s e (ValueWaits c j) k f = f
   booked-fair s e (Stored c) k f = and-left (k .fair) (not (eqb (c .0) (b .0))) f
+  booked-fair s e (TrailerStored c m) k f = and-left (k .fair) (not (eqb (c .0) (b .0))) f
   booked-fair s e (Loaded x d) k f = f
   booked-fair s e (Moved c x d) k f = go (eqb (c .0) (b .0)) f
     where

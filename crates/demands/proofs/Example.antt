@@ -10,14 +10,15 @@ use Rattle.value.specs.Sum.{totalOf}
 use Rattle.session.specs.Session.{coherentOf, inSector}
 use Rattle.frame.specs.Command.{byteIn, eightOf, twoOf, firstOf, commandOf}
 use Rattle.judge.specs.First.{first, ruled}
-use Rattle.judge.specs.Checks.{noCard, incoherent, noBlock, otherSector, isBlocked, isKey, wrongKey, isForbidden, trailerRight, rightOf, hasRight, noRight, noValue, kindColumn, columnOf, memoryChecks, checksOf, authenticateChecks, frameChecks}
-use Rattle.judge.specs.Judge.{totalFor, loadOf, appliedOf, moveOf, doneOf, commandedOf, judgeOf}
-use Rattle.card.specs.Effects.{numberOf, refusedSign, signOf, replyOf, sessionOf, writtenOf, imageOf}
+use Rattle.judge.specs.Checks.{noCard, incoherent, noBlock, otherSector, isBlocked, isKey, wrongKey, isForbidden, trailerRight, rightOf, hasRight, noRight, noValue, kindColumn, memoryChecks, checksOf, authenticateChecks, frameChecks}
+use Rattle.judge.specs.Grant.{writableBy, trailerGrant, grantOf}
+use Rattle.judge.specs.Judge.{totalFor, loadOf, appliedOf, moveOf, shownAs, storedAs, doneOf, commandedOf, judgeOf}
+use Rattle.card.specs.Effects.{numberOf, refusedSign, signOf, replyOf, sessionOf, imageOf}
 use Rattle.card.specs.Step.{answered, answerOf, imageAfter}
 use Rattle.play.specs.Run.{eventAnswer, eventImage, answersOf, runImage}
 use Rattle.demands.specs.Demand3.{actOf, booksAfter}
 use Rattle.demands.specs.Example.{purseCard, events, NotEmpty}
 
 pub not-empty : NotEmpty
-unfolding sectorsOf blocksIn blocksOf hasSector hasBlock sectorOf trailerOf isTrailer groupAt groupOf sixteenOf contentOf storeOf accessBytesOf wellFormed bitOf groupBits bitsOf dataTable trailerTable dataRow trailerRow allowsOf keysFor mayOf writableOf readableOf muteOf encodeOf decodeOf agreeing totalOf coherentOf inSector byteIn eightOf twoOf firstOf commandOf first ruled noCard incoherent noBlock otherSector isBlocked isKey wrongKey isForbidden trailerRight rightOf hasRight noRight noValue kindColumn columnOf memoryChecks checksOf authenticateChecks frameChecks totalFor loadOf appliedOf moveOf doneOf commandedOf judgeOf numberOf refusedSign signOf replyOf sessionOf writtenOf imageOf answered answerOf imageAfter eventAnswer eventImage answersOf runImage actOf booksAfter purseCard events
+unfolding sectorsOf blocksIn blocksOf hasSector hasBlock sectorOf trailerOf isTrailer groupAt groupOf sixteenOf contentOf storeOf accessBytesOf wellFormed bitOf groupBits bitsOf dataTable trailerTable dataRow trailerRow allowsOf keysFor mayOf writableOf readableOf muteOf encodeOf decodeOf agreeing totalOf coherentOf inSector byteIn eightOf twoOf firstOf commandOf first ruled noCard incoherent noBlock otherSector isBlocked isKey wrongKey isForbidden trailerRight rightOf hasRight noRight noValue kindColumn memoryChecks checksOf authenticateChecks frameChecks writableBy trailerGrant grantOf totalFor loadOf appliedOf moveOf shownAs storedAs doneOf commandedOf judgeOf numberOf refusedSign signOf replyOf sessionOf imageOf answered answerOf imageAfter eventAnswer eventImage answersOf runImage actOf booksAfter purseCard events
 not-empty = record { begins = refl; fair = refl; numbers = refl; counted = refl; ends = refl; written = refl }

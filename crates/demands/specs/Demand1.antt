@@ -8,6 +8,8 @@ use Rattle.layout.specs.Layout.{isTrailer}
 use Rattle.layout.specs.declared.Block.{Block}
 use Rattle.memory.specs.Memory.{contentOf}
 use Rattle.access.specs.declared.rights.Letter.{Letter}
+use Rattle.access.specs.declared.rights.Operation.{Operation}
+use Rattle.access.specs.declared.rights.Operation.the-variants as column
 use Rattle.value.specs.Block.{bitsIn}
 use Rattle.value.specs.declared.sum.Total.{Total}
 use Rattle.value.specs.declared.sum.Total.the-variants.{Fits, Outside}
@@ -15,11 +17,9 @@ use Rattle.session.specs.Session.{freshOf, isEmpty}
 use Rattle.session.specs.declared.Kind.{Kind}
 use Rattle.session.specs.declared.Session.{Session}
 use Rattle.frame.specs.Command.{commandOf}
-use Rattle.frame.specs.declared.Deed.{Deed}
-use Rattle.frame.specs.declared.Deed.the-variants.{Read, Write, Store, Begin, Apply, Transfer}
 use Rattle.frame.specs.declared.Command.{Command}
-use Rattle.frame.specs.declared.Command.the-variants.{Unknown, Authenticate, Memory, Halt}
-use Rattle.judge.specs.Checks.{noCard, incoherent, noBlock, otherSector, isBlocked, accessOf, wrongKey, isForbidden, columnOf, noRight, noValue}
+use Rattle.frame.specs.declared.Command.the-variants.{Unknown, Authenticate, Read, Write, Store, Begin, Apply, Transfer, Halt}
+use Rattle.judge.specs.Checks.{noCard, incoherent, noBlock, otherSector, isBlocked, accessOf, wrongKey, isForbidden, kindColumn, noRight, noValue}
 use Rattle.judge.specs.Judge.{totalFor}
 use Rattle.card.specs.Trailer.{zeros}
 use Rattle.card.specs.Step.{answerOf, imageAfter}
@@ -35,21 +35,29 @@ pub record Row : Type 0 where
 abbrev pub row : ℕ → Sign → Bool → Row
 row n air applies = record { number = n; air = air; applies = applies }
 
--- whom a row concerns: a frame that is no command, an Authenticate, a memory command; only 11, 12 and 1 concern a Halt
-abbrev pub concerns : Bool → (Letter → Block → Bool) → (Deed → Block → Bool) → Command → Bool
+-- whom a row concerns: a frame that is no command, an Authenticate, a memory command by its column of rights; only 11, 12 and 1 concern a Halt
+abbrev pub concerns : Bool → (Block → Letter → Bool) → (Operation → Block → Bool) → Command → Bool
 concerns unknown authenticate memory Unknown = unknown
-concerns unknown authenticate memory (Authenticate l b) = authenticate l b
-concerns unknown authenticate memory (Memory d b) = memory d b
+concerns unknown authenticate memory (Authenticate b l) = authenticate b l
+concerns unknown authenticate memory (Read b) = memory column.Read b
+concerns unknown authenticate memory (Write b) = memory column.Write b
+concerns unknown authenticate memory (Store b) = memory column.Write b
+concerns unknown authenticate memory (Begin b k) = memory (kindColumn k) b
+concerns unknown authenticate memory (Apply b k) = memory (kindColumn k) b
+concerns unknown authenticate memory (Transfer b) = memory column.Decrement b
 concerns unknown authenticate memory Halt = false
 
 -- of the memory commands: the first frame of a value operation, its second, a Transfer
-abbrev pub among : Bool → (Kind → Bool) → Bool → Deed → Bool
-among first second transfer Read = false
-among first second transfer Write = false
-among first second transfer Store = false
-among first second transfer (Begin k) = first
-among first second transfer (Apply k) = second k
-among first second transfer Transfer = transfer
+abbrev pub among : (Block → Bool) → (Block → Kind → Bool) → Bool → Command → Bool
+among first second transfer Unknown = false
+among first second transfer (Authenticate b l) = false
+among first second transfer (Read b) = false
+among first second transfer (Write b) = false
+among first second transfer (Store b) = false
+among first second transfer (Begin b k) = first b
+among first second transfer (Apply b k) = second b k
+among first second transfer (Transfer b) = transfer
+among first second transfer Halt = false
 
 abbrev pub isOutside : Total → Bool
 isOutside (Fits v) = false
@@ -60,16 +68,16 @@ abbrev pub tableFor : List ℕ → Session → List ℕ → Command → List Row
 tableFor image s frame c =
     row 11 Nothing (noCard image)
     ∷ row 12 Nothing (incoherent image s)
-    ∷ row 1 Nothing (concerns true (λ l b. false) (λ d b. false) c)
-    ∷ row 2 Nak (concerns false (λ l b. noBlock image b) (λ d b. noBlock image b) c)
-    ∷ row 3 Nak (concerns false (λ l b. false) (λ d b. otherSector (s .auth) b) c)
-    ∷ row 5 Nak (concerns false (λ l b. isBlocked (accessOf image b)) (λ d b. isBlocked (accessOf image b)) c)
-    ∷ row 4 Nothing (concerns false (λ l b. wrongKey image l b frame) (λ d b. false) c)
-    ∷ row 6 Nak (concerns false (λ l b. false) (λ d b. isForbidden (columnOf d) (eqb (b .0) 0) (isTrailer b)) c)
-    ∷ row 7 Nak (concerns false (λ l b. false) (λ d b. noRight (accessOf image b) (s .auth) (columnOf d) b) c)
-    ∷ row 8 Nak (concerns false (λ l b. false) (λ d b. among (noValue image b) (λ k. noValue image b) false d) c)
-    ∷ row 9 Nak (concerns false (λ l b. false) (λ d b. among false (λ k. false) (isEmpty (s .register)) d) c)
-    ∷ row 10 Nak (concerns false (λ l b. false) (λ d b. among false (λ k. isOutside (totalFor k (bitsIn (contentOf image b)) (bitsIn frame))) false d) c)
+    ∷ row 1 Nothing (concerns true (λ b l. false) (λ o b. false) c)
+    ∷ row 2 Nak (concerns false (λ b l. noBlock image b) (λ o b. noBlock image b) c)
+    ∷ row 3 Nak (concerns false (λ b l. false) (λ o b. otherSector (s .auth) b) c)
+    ∷ row 5 Nak (concerns false (λ b l. isBlocked (accessOf image b)) (λ o b. isBlocked (accessOf image b)) c)
+    ∷ row 4 Nothing (concerns false (λ b l. wrongKey image l b frame) (λ o b. false) c)
+    ∷ row 6 Nak (concerns false (λ b l. false) (λ o b. isForbidden o (eqb (b .0) 0) (isTrailer b)) c)
+    ∷ row 7 Nak (concerns false (λ b l. false) (λ o b. noRight (accessOf image b) (s .auth) o b) c)
+    ∷ row 8 Nak (among (λ b. noValue image b) (λ b k. noValue image b) false c)
+    ∷ row 9 Nak (among (λ b. false) (λ b k. false) (isEmpty (s .register)) c)
+    ∷ row 10 Nak (among (λ b. false) (λ b k. isOutside (totalFor k (bitsIn (contentOf image b)) (bitsIn frame))) false c)
     ∷ []
 
 abbrev pub table : List ℕ → Session → List ℕ → List Row

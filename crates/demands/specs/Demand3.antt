@@ -15,11 +15,11 @@ use Rattle.session.specs.Session.{freshOf}
 use Rattle.session.specs.declared.Kind.{Kind}
 use Rattle.session.specs.declared.Kind.the-variants.{Increment, Decrement, Restore}
 use Rattle.session.specs.declared.Stage.{Stage}
-use Rattle.session.specs.declared.Stage.the-variants.{Idle, WriteWaits, ValueWaits}
+use Rattle.session.specs.declared.Stage.the-variants as stage
 use Rattle.session.specs.declared.Session.{Session}
 use Rattle.judge.specs.Judge.{judgeOf}
 use Rattle.judge.specs.declared.Act.{Act}
-use Rattle.judge.specs.declared.Act.the-variants.{Refused, Authenticated, Shown, Waits, Stored, Loaded, Moved, Halted}
+use Rattle.judge.specs.declared.Act.the-variants.{Refused, Authenticated, Shown, TrailerShown, WriteWaits, ValueWaits, Stored, TrailerStored, Loaded, Moved, Halted}
 use Rattle.play.specs.Run.{eventAnswer, eventImage, runImage}
 
 -- what the register holds for the block: nothing of it; or a load from it, with its change, and whether that was counted
@@ -44,15 +44,19 @@ changeOf Restore frame = pos 0
 
 -- what that frame loads: something of the block's where the block is the source, not counted yet
 abbrev pub loadFor : Block → Stage → List ℕ → Held
-loadFor b Idle frame = foreign
-loadFor b (WriteWaits c) frame = foreign
-loadFor b (ValueWaits k c) frame = cond (eqb (c .0) (b .0)) (load (changeOf k frame) false) foreign
+loadFor b stage.Idle frame = foreign
+loadFor b (stage.WriteWaits c) frame = foreign
+loadFor b (stage.ValueWaits k c) frame = cond (eqb (c .0) (b .0)) (load (changeOf k frame) false) foreign
 
 -- a Transfer into the block counts the load that it brings, the first time only
 abbrev pub transferred : Held → Books → Books
 transferred foreign k = record { held = foreign; counted = k .counted; fair = false }
 transferred (load change true) k = k
 transferred (load change false) k = record { held = load change true; counted = k .counted +ℤ change; fair = k .fair }
+
+-- a Write into the block is not fair
+abbrev pub written : Block → Block → Books → Books
+written b c k = record { held = k .held; counted = k .counted; fair = k .fair && not (eqb (c .0) (b .0)) }
 
 abbrev pub holding : Held → Books → Books
 holding h k = record { held = h; counted = k .counted; fair = k .fair }
@@ -62,8 +66,11 @@ abbrev pub booked : Block → Session → List ℕ → Act → Books → Books
 booked b s frame (Refused n) k = holding foreign k
 booked b s frame (Authenticated t l) k = holding foreign k
 booked b s frame (Shown c) k = k
-booked b s frame (Waits w) k = k
-booked b s frame (Stored c) k = record { held = k .held; counted = k .counted; fair = k .fair && not (eqb (c .0) (b .0)) }
+booked b s frame (TrailerShown c m) k = k
+booked b s frame (WriteWaits c) k = k
+booked b s frame (ValueWaits c j) k = k
+booked b s frame (Stored c) k = written b c k
+booked b s frame (TrailerStored c m) k = written b c k
 booked b s frame (Loaded v a) k = holding (loadFor b (s .stage) frame) k
 booked b s frame (Moved c v a) k = cond (eqb (c .0) (b .0)) (transferred (k .held) k) k
 booked b s frame Halted k = holding foreign k

@@ -1,23 +1,24 @@
 -- What a frame gets for the record of a session, and for twelve bytes that are none.
 -- Assumes nothing.
-use mathlib.Core.Path.{_≡_, refl, ap}
+use mathlib.Core.Path.{_≡_, refl, sym, ap}
 use mathlib.Core.Bool.{Bool, true, false, cond}
 use mathlib.Core.List.{List}
 use Prim.Native.Nat.{ℕ, _<_}
+use lib.ListN.{length}
 use Rattle.session.specs.Session.{freshOf, coherentOf}
 use Rattle.session.specs.declared.Session.{Session}
 use Rattle.judge.specs.Checks.{noCard, incoherent, frameChecks}
-use Rattle.judge.specs.First.{first, ruled}
+use Rattle.judge.specs.First.{refuses, first, ruled}
 use Rattle.judge.specs.Judge.{commandedOf, judgeOf}
-use Rattle.judge.specs.declared.checks.Verdict.the-variants.{Refuse}
 use Rattle.frame.specs.Command.{commandOf}
 use Rattle.judge.specs.declared.Act.the-variants.{Refused}
 use Rattle.card.specs.Trailer.{zeros}
 use Rattle.card.specs.Effects.{numberOf, signOf, refusedSign, replyOf, sessionOf, imageOf}
-use Rattle.card.specs.Step.{answered, answerOf, imageAfter}
+use Rattle.card.specs.Step.{answered, answerOf, imageAfter, noSessionOf}
 use Rattle.card.specs.declared.Answer.{Answer}
 use Rattle.card.specs.declared.Sign.the-variants.{Nothing}
-use Rattle.record.specs.Record.{valueBits, recordOf, isRecord, strayOf}
+use Rattle.record.specs.Record.{valueBits, recordOf, isRecord, foundIn, strayOf, sessionFrom}
+use Rattle.record.specs.declared.Found.the-variants as found
 use Rattle.record.proofs.Laws.{reads-back, no-record}
 use Rattle.edge.specs.Edge.{frameAnswer, frameImage}
 
@@ -40,7 +41,7 @@ stray-judged : (image frame : List ℕ) → judgeOf image strayOf frame ≡ Refu
 unfolding judgeOf frameChecks first ruled incoherent coherentOf
 stray-judged image frame = either (noCard image)
   where
-    either : (b : Bool) → ruled (cond b (Refuse 11) (Refuse 12)) (commandedOf image strayOf (commandOf (strayOf .stage) frame) frame) ≡ Refused (cond b 11 12)
+    either : (b : Bool) → ruled (cond b (refuses 11) (refuses 12)) (commandedOf image strayOf (commandOf (strayOf .stage) frame) frame) ≡ Refused (cond b 11 12)
     either true = refl
     either false = refl
 
@@ -52,9 +53,25 @@ silent image s = either (noCard image)
     either true = refl
     either false = refl
 
+-- so that session gets what a frame gets where there is none, and nothing is done to the image
+pub stray : (image frame : List ℕ) → (answerOf image strayOf frame ≡ noSessionOf (length image)) × (imageAfter image strayOf frame ≡ image)
+unfolding answerOf imageAfter imageOf noSessionOf noCard
+stray image frame = rw (stray-judged image frame) (silent image strayOf, refl)
+
 -- twelve bytes that are no record are refused by 11 or 12, and nothing else is done
 pub bad-record : (image bytes frame : List ℕ) → isRecord bytes ≡ false
     → (frameAnswer image bytes frame ≡ silentRefusal (strayNumber image)) × (frameImage image bytes frame ≡ image)
-unfolding answerOf imageAfter imageOf
-bad-record image bytes frame e =
-    rw (no-record bytes e, stray-judged image frame) (silent image strayOf, refl)
+unfolding noSessionOf noCard
+bad-record image bytes frame e = rw (no-record bytes e) (stray image frame)
+
+-- what a frame gets, by what was found in the twelve bytes
+module _ (image bytes frame : List ℕ) where
+  pub with-session : (s : Session) → foundIn bytes ≡ found.Session s
+      → (answerOf image s frame ≡ frameAnswer image bytes frame) × (imageAfter image s frame ≡ frameImage image bytes frame)
+  unfolding sessionFrom
+  with-session s e = rw e (refl, refl)
+
+  pub without-session : foundIn bytes ≡ found.Nothing
+      → (noSessionOf (length image) ≡ frameAnswer image bytes frame) × (image ≡ frameImage image bytes frame)
+  unfolding sessionFrom
+  without-session e = let refused = stray image frame in rw e (sym (refused .0), sym (refused .1))

@@ -5,6 +5,7 @@ ghost use Rattle.card.specs.Step.{resetOf};
 ghost use Rattle.record.specs.Record.{recordOf};
 ghost use Rattle.edge.specs.Edge.{packed, frameAnswer, frameImage, versionOf};
 use card::Answer;
+use record::Found;
 
 const VERSION: u32 = 1;
 
@@ -42,7 +43,10 @@ pub extern "C" fn tirlwheel_frame(
     ensures { λ _. ⌜ now (reply .exit) ≡ frameAnswer (now (image .entry)) (now (session .entry)) (now (frame .entry)) .reply ⌝ }
     ensures { λ _. ⌜ now (image .exit) ≡ frameImage (now (image .entry)) (now (session .entry)) (now (frame .entry)) ⌝ }
 {
-    let a = card::step(image, record::decode(*session), frame);
+    let a = match record::decode(*session) {
+        Found::Session(s) => card::step(image, s, frame),
+        Found::Nothing => card::no_session(image.len()),
+    };
     give(a, session, reply)
 }
 

@@ -9,9 +9,8 @@ use Rattle.access.specs.declared.rights.Letter.the-variants.{KeyA, KeyB}
 use Rattle.session.specs.declared.Kind.the-variants.{Increment, Decrement, Restore}
 use Rattle.session.specs.declared.Stage.{Stage}
 use Rattle.session.specs.declared.Stage.the-variants.{Idle, WriteWaits, ValueWaits}
-use Rattle.frame.specs.declared.Deed.the-variants.{Read, Write, Store, Begin, Apply, Transfer}
 use Rattle.frame.specs.declared.Command.{Command}
-use Rattle.frame.specs.declared.Command.the-variants.{Unknown, Authenticate, Memory, Halt}
+use Rattle.frame.specs.declared.Command.the-variants.{Unknown, Authenticate, Read, Write, Store, Begin, Apply, Transfer, Halt}
 
 abbrev pub blockAt : ℕ → Block
 blockAt n = record { 0 = n }
@@ -23,17 +22,17 @@ byteIn frame i = getD frame i 0
 -- a frame of eight bytes asks for an authentication: code, block, key
 unfoldable pub eightOf : ℕ → ℕ → Command
 eightOf code block =
-    cond (eqb code 0x60) (Authenticate KeyA (blockAt block)) (cond (eqb code 0x61) (Authenticate KeyB (blockAt block)) Unknown)
+    cond (eqb code 0x60) (Authenticate (blockAt block) KeyA) (cond (eqb code 0x61) (Authenticate (blockAt block) KeyB) Unknown)
 
 -- a frame of two bytes: code and block. Write and Begin are first frames; their second ones are Store and Apply
 unfoldable pub twoOf : ℕ → ℕ → Command
 twoOf code block =
-    cond (eqb code 0x30) (Memory Read (blockAt block))
-    (cond (eqb code 0xA0) (Memory Write (blockAt block))
-    (cond (eqb code 0xC1) (Memory (Begin Increment) (blockAt block))
-    (cond (eqb code 0xC0) (Memory (Begin Decrement) (blockAt block))
-    (cond (eqb code 0xC2) (Memory (Begin Restore) (blockAt block))
-    (cond (eqb code 0xB0) (Memory Transfer (blockAt block))
+    cond (eqb code 0x30) (Read (blockAt block))
+    (cond (eqb code 0xA0) (Write (blockAt block))
+    (cond (eqb code 0xC1) (Begin (blockAt block) Increment)
+    (cond (eqb code 0xC0) (Begin (blockAt block) Decrement)
+    (cond (eqb code 0xC2) (Begin (blockAt block) Restore)
+    (cond (eqb code 0xB0) (Transfer (blockAt block))
     (cond (eqb code 0x50) (cond (eqb block 0) Halt Unknown)
     Unknown))))))
 
@@ -46,5 +45,5 @@ firstOf frame =
 -- the stage says what a frame is; of a second frame nothing but the length is looked at
 unfoldable pub commandOf : Stage → List ℕ → Command
 commandOf Idle frame = firstOf frame
-commandOf (WriteWaits b) frame = cond (eqb (length frame) 16) (Memory Store b) Unknown
-commandOf (ValueWaits k b) frame = cond (eqb (length frame) 4) (Memory (Apply k) b) Unknown
+commandOf (WriteWaits b) frame = cond (eqb (length frame) 16) (Store b) Unknown
+commandOf (ValueWaits k b) frame = cond (eqb (length frame) 4) (Apply b k) Unknown

@@ -6,20 +6,17 @@ use layout::Block;
 use session::Kind;
 use session::Stage;
 
-// What is asked of a block. Write and Store are the first and the second frame of a Write, Begin and Apply those of a value operation.
-pub enum Deed {
-    Read,
-    Write,
-    Store,
-    Begin(Kind),
-    Apply(Kind),
-    Transfer,
-}
-
+// What is asked, and of which block. Write and Store are the first and the second frame of a Write, Begin and Apply those of a value operation.
+// Each case that has a block has it first, so that the code keeps it in one place.
 pub enum Command {
     Unknown,
-    Authenticate(Letter, Block),
-    Memory(Deed, Block),
+    Authenticate(Block, Letter),
+    Read(Block),
+    Write(Block),
+    Store(Block),
+    Begin(Block, Kind),
+    Apply(Block, Kind),
+    Transfer(Block),
     Halt,
 }
 
@@ -38,8 +35,8 @@ fn eight(code: u8, block: u8) -> Command
 {
     let b = Block(block);
     match code {
-        0x60 => Command::Authenticate(Letter::KeyA, b),
-        0x61 => Command::Authenticate(Letter::KeyB, b),
+        0x60 => Command::Authenticate(b, Letter::KeyA),
+        0x61 => Command::Authenticate(b, Letter::KeyB),
         _ => Command::Unknown,
     }
 }
@@ -49,12 +46,12 @@ fn two(code: u8, block: u8) -> Command
 {
     let b = Block(block);
     match code {
-        0x30 => Command::Memory(Deed::Read, b),
-        0xA0 => Command::Memory(Deed::Write, b),
-        0xC1 => Command::Memory(Deed::Begin(Kind::Increment), b),
-        0xC0 => Command::Memory(Deed::Begin(Kind::Decrement), b),
-        0xC2 => Command::Memory(Deed::Begin(Kind::Restore), b),
-        0xB0 => Command::Memory(Deed::Transfer, b),
+        0x30 => Command::Read(b),
+        0xA0 => Command::Write(b),
+        0xC1 => Command::Begin(b, Kind::Increment),
+        0xC0 => Command::Begin(b, Kind::Decrement),
+        0xC2 => Command::Begin(b, Kind::Restore),
+        0xB0 => Command::Transfer(b),
         0x50 => {
             if block == 0 {
                 Command::Halt
@@ -88,14 +85,14 @@ pub fn command_of(stage: Stage, frame: &[u8]) -> Command
         Stage::Idle => first_command(frame),
         Stage::WriteWaits(b) => {
             if n == 16 {
-                Command::Memory(Deed::Store, b)
+                Command::Store(b)
             } else {
                 Command::Unknown
             }
         }
         Stage::ValueWaits(k, b) => {
             if n == 4 {
-                Command::Memory(Deed::Apply(k), b)
+                Command::Apply(b, k)
             } else {
                 Command::Unknown
             }

@@ -1,67 +1,230 @@
--- Lists of checks, one part after the other.
+-- Lists of checks, one part after the other; and what a verdict makes of a memory command.
 -- Assumes nothing.
-use mathlib.Core.Path.{_≡_, refl, sym, _∙_}
-use mathlib.Core.Bool.{true, false}
+use mathlib.Core.Path.{_≡_, refl, sym, _∙_, ap}
+use mathlib.Core.Bool.{Bool, true, false, cond, _&&_, _||_, false≢true}
 use mathlib.Core.List.{List, [], _∷_, _++_}
 use Prim.Native.Nat.{ℕ}
+use native.Mathlib.Omega.{arith}
+use lib.Dec.{eqb}
+use types.Run.{OneOf, miss}
+use denote.Enum.Declared.{tagOf}
+use Rattle.layout.specs.Layout.{isTrailer}
 use Rattle.layout.specs.declared.Block.{Block}
 use Rattle.access.specs.declared.rights.Operation.{Operation}
+use Rattle.access.specs.declared.rights.Operation.the-variants as column
+use Rattle.access.specs.declared.bits.AccessBytes.{AccessBytes}
 use Rattle.session.specs.Session.{isEmpty}
+use Rattle.session.specs.declared.Auth.{Auth}
+use Rattle.session.specs.declared.Kind.{Kind}
+use Rattle.session.specs.declared.Kind.the-variants.{Increment, Decrement, Restore}
 use Rattle.session.specs.declared.Session.{Session}
-use Rattle.frame.specs.declared.Deed.{Deed}
-use Rattle.frame.specs.declared.Deed.the-variants.{Read, Write, Store, Begin, Apply, Transfer}
+use Rattle.frame.specs.declared.Command.{Command}
+use Rattle.frame.specs.declared.Command.the-variants.{Unknown, Authenticate, Read, Write, Store, Begin, Apply, Transfer, Halt}
+use Rattle.frame.proofs.Command.{the-type}
 use Rattle.judge.specs.declared.Act.{Act}
 use Rattle.judge.specs.declared.Act.the-variants.{Refused}
 use Rattle.judge.specs.declared.checks.Verdict.{Verdict}
-use Rattle.judge.specs.declared.checks.Verdict.the-variants.{Pass, Refuse}
-use Rattle.judge.specs.First.{Check, check, first, ruled}
-use Rattle.judge.specs.Judge.{doneOf}
-use Rattle.judge.specs.Checks.{noValue, columnOf, memoryChecks, checksOf}
+use Rattle.judge.specs.declared.checks.Verdict.the-variants.{Refuse, Whole, InParts}
+use Rattle.judge.specs.First.{Check, check, Outcome, passes, refuses, first, ruled}
+use Rattle.judge.specs.Checks.{accessOf, noValue, isForbidden, kindColumn, memoryChecks, checksOf}
+use Rattle.judge.specs.Grant.{trailerGrant, grantOf, granted, verdictOf}
+use Rattle.judge.specs.Code.{columnOf, blockOf, isMemory}
+use Rattle.judge.specs.Judge.{shownAs, storedAs, doneOf, commandedOf}
 
 -- the first part refuses
-pub stop : (xs ys : List Check) (n : ℕ) → first xs ≡ Refuse n → first (xs ++ ys) ≡ Refuse n
+pub stop : (xs ys : List Check) (n : ℕ) → first xs ≡ refuses n → first (xs ++ ys) ≡ refuses n
 unfolding first
 stop [] ys n e = cc
 stop (check m true ∷ xs) ys n e = e
 stop (check m false ∷ xs) ys n e = stop xs ys n e
 
 -- the first part passes
-pub pass : (xs ys : List Check) → first xs ≡ Pass → first (xs ++ ys) ≡ first ys
+pub pass : (xs ys : List Check) → first xs ≡ passes → first (xs ++ ys) ≡ first ys
 unfolding first
 pass [] ys e = refl
 pass (check m true ∷ xs) ys e = cc
 pass (check m false ∷ xs) ys e = pass xs ys e
 
--- what a deed has to pass after the checks of every memory command
-abbrev pub furtherOf : List ℕ → Session → Deed → Block → List Check
-furtherOf image s Read b = []
-furtherOf image s Write b = []
-furtherOf image s Store b = []
-furtherOf image s (Begin k) b = check 8 (noValue image b) ∷ []
-furtherOf image s (Apply k) b = check 8 (noValue image b) ∷ []
-furtherOf image s Transfer b = check 9 (isEmpty (s .register)) ∷ []
+-- what a memory command has to pass after the checks of every one
+abbrev pub furtherOf : List ℕ → Session → Command → List Check
+furtherOf image s Unknown = []
+furtherOf image s (Authenticate b l) = []
+furtherOf image s (Read b) = []
+furtherOf image s (Write b) = []
+furtherOf image s (Store b) = []
+furtherOf image s (Begin b k) = check 8 (noValue image b) ∷ []
+furtherOf image s (Apply b k) = check 8 (noValue image b) ∷ []
+furtherOf image s (Transfer b) = check 9 (isEmpty (s .register)) ∷ []
+furtherOf image s Halt = []
 
-pub two-parts : (image : List ℕ) (s : Session) (d : Deed) (b : Block)
-    → checksOf image s d b ≡ memoryChecks image (s .auth) (columnOf d) b ++ furtherOf image s d b
-unfolding checksOf memoryChecks columnOf
-two-parts image s Read b = refl
-two-parts image s Write b = refl
-two-parts image s Store b = refl
-two-parts image s (Begin k) b = refl
-two-parts image s (Apply k) b = refl
-two-parts image s Transfer b = refl
+two-parts : (image : List ℕ) (s : Session) (c : Command) (frame : List ℕ) → isMemory c ≡ true
+    → checksOf image s c frame ≡ memoryChecks image (s .auth) (columnOf c) (blockOf c) ++ furtherOf image s c
+unfolding checksOf memoryChecks columnOf blockOf isMemory
+two-parts image s Unknown frame h = absurd (false≢true h)
+two-parts image s (Authenticate b l) frame h = absurd (false≢true h)
+two-parts image s (Read b) frame h = refl
+two-parts image s (Write b) frame h = refl
+two-parts image s (Store b) frame h = refl
+two-parts image s (Begin b k) frame h = refl
+two-parts image s (Apply b k) frame h = refl
+two-parts image s (Transfer b) frame h = refl
+two-parts image s Halt frame h = absurd (false≢true h)
 
--- the code's way: the column that it asked, and the verdict that it got
-module _ (image : List ℕ) (s : Session) (d : Deed) (b : Block) (o : Operation) (v : Verdict) (asked : o ≡ columnOf d)
-    (got : v ≡ first (memoryChecks image (s .auth) o b)) where
-  pub stopped : (n : ℕ) (act : Act) → v ≡ Refuse n → Refused n ≡ ruled (first (checksOf image s d b)) act
-  unfolding ruled
-  stopped n act e =
-      let f : first (memoryChecks image (s .auth) (columnOf d) b) ≡ Refuse n = rw asked at (sym got ∙ e) in
-      rw (two-parts image s d b, stop (memoryChecks image (s .auth) (columnOf d) b) (furtherOf image s d b) n f)
+-- what a command does, with the grant that the code was given
+abbrev pub doneWith : Verdict → List ℕ → Session → Command → List ℕ → Act
+doneWith v image s Unknown frame = doneOf image s Unknown frame
+doneWith v image s (Authenticate b l) frame = doneOf image s (Authenticate b l) frame
+doneWith v image s (Read b) frame = shownAs b v
+doneWith v image s (Write b) frame = doneOf image s (Write b) frame
+doneWith v image s (Store b) frame = storedAs b v
+doneWith v image s (Begin b k) frame = doneOf image s (Begin b k) frame
+doneWith v image s (Apply b k) frame = doneOf image s (Apply b k) frame
+doneWith v image s (Transfer b) frame = doneOf image s (Transfer b) frame
+doneWith v image s Halt frame = doneOf image s Halt frame
 
-  pub passed : (d′ : Deed) (frame : List ℕ) → v ≡ Pass → d ≡ d′
-      → ruled (first (furtherOf image s d′ b)) (doneOf image s d′ b frame) ≡ ruled (first (checksOf image s d b)) (doneOf image s d b frame)
-  passed d′ frame e q =
-      let f : first (memoryChecks image (s .auth) (columnOf d) b) ≡ Pass = rw asked at (sym got ∙ e) in
-      rw (← q) (rw (two-parts image s d b, pass (memoryChecks image (s .auth) (columnOf d) b) (furtherOf image s d b) f))
+done-with : (v : Verdict) (image : List ℕ) (s : Session) (c : Command) (frame : List ℕ)
+    → grantOf (accessOf image (blockOf c)) (s .auth) (columnOf c) (blockOf c) ≡ v → doneWith v image s c frame ≡ doneOf image s c frame
+unfolding doneOf columnOf blockOf
+done-with v image s Unknown frame e = refl
+done-with v image s (Authenticate b l) frame e = refl
+done-with v image s (Read b) frame e = ap (shownAs b) (sym e)
+done-with v image s (Write b) frame e = refl
+done-with v image s (Store b) frame e = ap (storedAs b) (sym e)
+done-with v image s (Begin b k) frame e = refl
+done-with v image s (Apply b k) frame e = refl
+done-with v image s (Transfer b) frame e = refl
+done-with v image s Halt frame e = refl
+
+-- a grant is no refusal
+abbrev isGrant : Verdict → Bool
+isGrant (Refuse n) = false
+isGrant Whole = true
+isGrant (InParts m) = true
+
+grants : (x : AccessBytes) (auth : Auth) (o : Operation) (b : Block) → isGrant (grantOf x auth o b) ≡ true
+unfolding grantOf trailerGrant
+grants x auth o b = go o _ _ (isTrailer b)
+  where
+    cut : (t : Bool) (m : ℕ) → isGrant (cond t Whole (InParts m)) ≡ true
+    cut true m = refl
+    cut false m = refl
+
+    go : (o : Operation) (p : _) (m : ℕ) (t : Bool) → isGrant (cond t (trailerGrant o p m) Whole) ≡ true
+    go o p m false = refl
+    go column.Read p m true = refl
+    go column.Write p m true = cut (p .a && p .bits && p .b) m
+    go column.Increment p m true = refl
+    go column.Decrement p m true = refl
+
+-- what a verdict tells: the checks refused, or they passed and it is what was granted
+told-stop : (o : Outcome) (g : Verdict) (n : ℕ) → isGrant g ≡ true → granted o g ≡ Refuse n → o ≡ refuses n
+unfolding granted
+told-stop passes g n h e = absurd (false≢true (ap isGrant (sym e) ∙ h))
+told-stop (refuses k) g n h e = let q : k ≡ n = cc in ap refuses q
+
+told-pass : (o : Outcome) (g v : Verdict) → isGrant v ≡ true → granted o g ≡ v → (o ≡ passes) × (g ≡ v)
+unfolding granted
+told-pass passes g v h e = (refl, e)
+told-pass (refuses k) g v h e = absurd (false≢true (ap isGrant e ∙ h))
+
+or-right : (x y : Bool) → (x || y) ≡ false → y ≡ false
+or-right false y e = e
+or-right true y e = absurd (false≢true (sym e))
+
+-- a list that passes: its first check does not apply, and the rest passes
+past : (n : ℕ) (applies : Bool) (cs : List Check) → first (check n applies ∷ cs) ≡ passes → (applies ≡ false) × (first cs ≡ passes)
+unfolding first
+past n true cs e = let q : _≡_ {A = ℕ} 0 1 = cc in absurd (omega (arith, q))
+past n false cs e = (refl, e)
+
+-- 6 refuses a value operation on a trailer, so it never comes to parts
+module _ (image : List ℕ) (auth : Auth) (b : Block) (m : ℕ) where
+  no-value : (o : Operation) → ((z t : Bool) → isForbidden o z t ≡ (z || t)) → verdictOf image auth o b ≡ InParts m → ⊥
+  unfolding verdictOf grantOf memoryChecks
+  no-value o value e =
+      let f = told-pass (first (memoryChecks image auth o b)) (grantOf (accessOf image b) auth o b) (InParts m) refl e in
+      let p = past 6 _ _ (past 5 _ _ (past 3 _ _ (past 2 _ _ (f .0) .1) .1) .1) in
+      let t : isTrailer b ≡ false = or-right (eqb (b .0) 0) (isTrailer b) (sym (value (eqb (b .0) 0) (isTrailer b)) ∙ p .0) in
+      let g : Whole ≡ InParts m = rw t at (f .1) in
+      let q : _≡_ {A = ℕ} 0 1 = cc in
+      absurd (omega (arith, q))
+
+-- the commands that have no way with a trailer, and those that are no memory commands, by their places in the enum
+abbrev no-trailer : List ℕ
+no-trailer = 0 ∷ 1 ∷ 5 ∷ 6 ∷ 7 ∷ 8 ∷ []
+
+abbrev no-memory : List ℕ
+no-memory = 0 ∷ 1 ∷ 8 ∷ []
+
+-- what the judgement hands on is a memory command
+pub is-memory : (c : Command) → OneOf (2 ∷ 3 ∷ 4 ∷ 5 ∷ 6 ∷ 7 ∷ []) (tagOf the-type c) → isMemory c ≡ true
+unfolding isMemory
+is-memory Unknown k = absurd (miss (2 ∷ 3 ∷ 4 ∷ 5 ∷ 6 ∷ 7 ∷ []) 0 tt k)
+is-memory (Authenticate b l) k = absurd (miss (2 ∷ 3 ∷ 4 ∷ 5 ∷ 6 ∷ 7 ∷ []) 1 tt k)
+is-memory (Read b) k = refl
+is-memory (Write b) k = refl
+is-memory (Store b) k = refl
+is-memory (Begin b j) k = refl
+is-memory (Apply b j) k = refl
+is-memory (Transfer b) k = refl
+is-memory Halt k = absurd (miss (2 ∷ 3 ∷ 4 ∷ 5 ∷ 6 ∷ 7 ∷ []) 8 tt k)
+
+-- the code's way: the column and the block that it asked about, and the verdict that it got
+module _ (image : List ℕ) (s : Session) (c : Command) (frame : List ℕ) (o : Operation) (b : Block) (v : Verdict) (memory : isMemory c ≡ true)
+    (asked : o ≡ columnOf c) (about : b ≡ blockOf c) (got : v ≡ verdictOf image (s .auth) o b) where
+  abbrev shared : List Check
+  shared = memoryChecks image (s .auth) (columnOf c) (blockOf c)
+
+  judged : granted (first shared) (grantOf (accessOf image (blockOf c)) (s .auth) (columnOf c) (blockOf c)) ≡ v
+  unfolding verdictOf
+  judged = rw (asked, about) at (sym got)
+
+  pub stopped : (n : ℕ) → v ≡ Refuse n → Refused n ≡ commandedOf image s c frame
+  unfolding commandedOf ruled
+  stopped n e =
+      let f : first shared ≡ refuses n = told-stop (first shared) _ n (grants (accessOf image (blockOf c)) (s .auth) (columnOf c) (blockOf c)) (judged ∙ e) in
+      rw (two-parts image s c frame memory, stop shared (furtherOf image s c) n f)
+
+  pub passed : (w : Verdict) → v ≡ w → isGrant w ≡ true → (c′ : Command) → c ≡ c′
+      → ruled (first (furtherOf image s c′)) (doneWith w image s c′ frame) ≡ commandedOf image s c frame
+  unfolding commandedOf
+  passed w e h c′ q =
+      let f = told-pass (first shared) _ w h (judged ∙ e) in
+      rw (← q) (rw (two-parts image s c frame memory, pass shared (furtherOf image s c) (f .0), done-with w image s c frame (f .1)))
+
+  -- only a Read and a Write come to parts of a trailer: 6 refuses the others
+  pub no-parts : (m : ℕ) → v ≡ InParts m → OneOf no-trailer (tagOf the-type c) → (act : Act) → act ≡ commandedOf image s c frame
+  unfolding isMemory columnOf blockOf kindColumn isForbidden
+  no-parts m e k act = absurd (parts-of c memory k (rw (asked, about) at (sym got ∙ e)))
+    where
+      by-kind : (d : Block) (k : Kind) → verdictOf image (s .auth) (kindColumn k) d ≡ InParts m → ⊥
+      by-kind d Increment = no-value image (s .auth) d m column.Increment (λ z t. refl)
+      by-kind d Decrement = no-value image (s .auth) d m column.Decrement (λ z t. refl)
+      by-kind d Restore = no-value image (s .auth) d m column.Decrement (λ z t. refl)
+
+      parts-of : (c : Command) → isMemory c ≡ true → OneOf no-trailer (tagOf the-type c) → verdictOf image (s .auth) (columnOf c) (blockOf c) ≡ InParts m → ⊥
+      parts-of Unknown h k f = false≢true h
+      parts-of (Authenticate d l) h k f = false≢true h
+      parts-of (Read d) h k f = miss no-trailer 2 tt k
+      parts-of (Write d) h k f = miss no-trailer 3 tt k
+      parts-of (Store d) h k f = miss no-trailer 4 tt k
+      parts-of (Begin d j) h k f = by-kind d j f
+      parts-of (Apply d j) h k f = by-kind d j f
+      parts-of (Transfer d) h k f = no-value image (s .auth) d m column.Decrement (λ z t. refl) f
+      parts-of Halt h k f = false≢true h
+
+  -- and what is no memory command does not come here
+  pub no-more : OneOf no-memory (tagOf the-type c) → (act : Act) → act ≡ commandedOf image s c frame
+  unfolding isMemory
+  no-more k act = absurd (memory-of c memory k)
+    where
+      memory-of : (c : Command) → isMemory c ≡ true → OneOf no-memory (tagOf the-type c) → ⊥
+      memory-of Unknown h k = false≢true h
+      memory-of (Authenticate d l) h k = false≢true h
+      memory-of (Read d) h k = miss no-memory 2 tt k
+      memory-of (Write d) h k = miss no-memory 3 tt k
+      memory-of (Store d) h k = miss no-memory 4 tt k
+      memory-of (Begin d j) h k = miss no-memory 5 tt k
+      memory-of (Apply d j) h k = miss no-memory 6 tt k
+      memory-of (Transfer d) h k = miss no-memory 7 tt k
+      memory-of Halt h k = false≢true h

@@ -1,4 +1,4 @@
--- The checks by their numbers, and which of them each command has to pass. 1 is in `frame`, 9 is an empty register, 10 comes with the result.
+-- The checks by their numbers, and which of them each command has to pass. 9 is an empty register, and 10 comes with the result.
 use Prim.Native.Nat.{ℕ, _+_}
 use mathlib.Core.Bool.{Bool, true, false, not, _&&_, _||_, cond}
 use mathlib.Core.List.{List, [], _∷_, _++_}
@@ -24,8 +24,8 @@ use Rattle.session.specs.declared.Kind.{Kind}
 use Rattle.session.specs.declared.Kind.the-variants.{Increment, Decrement, Restore}
 use Rattle.session.specs.declared.Session.{Session}
 use Rattle.frame.specs.Command.{byteIn}
-use Rattle.frame.specs.declared.Deed.{Deed}
-use Rattle.frame.specs.declared.Deed.the-variants.{Read, Write, Store, Begin, Apply, Transfer}
+use Rattle.frame.specs.declared.Command.{Command}
+use Rattle.frame.specs.declared.Command.the-variants.{Unknown, Authenticate, Read, Write, Store, Begin, Apply, Transfer, Halt}
 use Rattle.judge.specs.First.{Check, check}
 
 -- the trailer of a block's sector, and the access bytes in it
@@ -110,15 +110,6 @@ kindColumn Increment = column.Increment
 kindColumn Decrement = column.Decrement
 kindColumn Restore = column.Decrement
 
--- the column of the rights that a deed needs; Transfer goes by Decrement's
-unfoldable pub columnOf : Deed → Operation
-columnOf Read = column.Read
-columnOf Write = column.Write
-columnOf Store = column.Write
-columnOf (Begin k) = kindColumn k
-columnOf (Apply k) = kindColumn k
-columnOf Transfer = column.Decrement
-
 -- what every memory command has to pass
 unfoldable pub memoryChecks : List ℕ → Auth → Operation → Block → List Check
 memoryChecks image auth o b =
@@ -129,19 +120,22 @@ memoryChecks image auth o b =
     ∷ check 7 (noRight (accessOf image b) auth o b)
     ∷ []
 
--- what a deed has to pass; Store runs the checks of Write and Apply those of Begin
-unfoldable pub checksOf : List ℕ → Session → Deed → Block → List Check
-checksOf image s Read b = memoryChecks image (s .auth) (columnOf Read) b
-checksOf image s Write b = memoryChecks image (s .auth) (columnOf Write) b
-checksOf image s Store b = memoryChecks image (s .auth) (columnOf Write) b
-checksOf image s (Begin k) b = memoryChecks image (s .auth) (columnOf (Begin k)) b ++ (check 8 (noValue image b) ∷ [])
-checksOf image s (Apply k) b = memoryChecks image (s .auth) (columnOf (Begin k)) b ++ (check 8 (noValue image b) ∷ [])
-checksOf image s Transfer b = memoryChecks image (s .auth) (columnOf Transfer) b ++ (check 9 (isEmpty (s .register)) ∷ [])
-
 -- what Authenticate has to pass
 unfoldable pub authenticateChecks : List ℕ → Letter → Block → List ℕ → List Check
 authenticateChecks image l b frame =
     check 2 (noBlock image b) ∷ check 5 (isBlocked (accessOf image b)) ∷ check 4 (wrongKey image l b frame) ∷ []
+
+-- what each command has to pass: Store runs the checks of Write and Apply those of Begin, Transfer goes by the column of decrement, and a Halt has none
+unfoldable pub checksOf : List ℕ → Session → Command → List ℕ → List Check
+checksOf image s Unknown frame = check 1 true ∷ []
+checksOf image s (Authenticate b l) frame = authenticateChecks image l b frame
+checksOf image s (Read b) frame = memoryChecks image (s .auth) column.Read b
+checksOf image s (Write b) frame = memoryChecks image (s .auth) column.Write b
+checksOf image s (Store b) frame = memoryChecks image (s .auth) column.Write b
+checksOf image s (Begin b k) frame = memoryChecks image (s .auth) (kindColumn k) b ++ (check 8 (noValue image b) ∷ [])
+checksOf image s (Apply b k) frame = memoryChecks image (s .auth) (kindColumn k) b ++ (check 8 (noValue image b) ∷ [])
+checksOf image s (Transfer b) frame = memoryChecks image (s .auth) column.Decrement b ++ (check 9 (isEmpty (s .register)) ∷ [])
+checksOf image s Halt frame = []
 
 -- 11 and 12, before the frame is looked at
 unfoldable pub frameChecks : List ℕ → Session → List Check

@@ -2,8 +2,6 @@
 use Prim.Native.Nat.{ℕ}
 use mathlib.Core.Bool.{Bool, cond}
 use mathlib.Core.List.{List, [], _∷_}
-use Rattle.judge.specs.declared.checks.Verdict.{Verdict}
-use Rattle.judge.specs.declared.checks.Verdict.the-variants.{Pass, Refuse}
 use Rattle.judge.specs.declared.Act.{Act}
 use Rattle.judge.specs.declared.Act.the-variants.{Refused}
 
@@ -11,12 +9,17 @@ use Rattle.judge.specs.declared.Act.the-variants.{Refused}
 pub data Check : Type 0 where
   check : ℕ → Bool → Check
 
--- the first that applies
-unfoldable pub first : List Check → Verdict
-first [] = Pass
-first (check n applies ∷ cs) = cond applies (Refuse n) (first cs)
+-- what a list of checks comes to
+pub data Outcome : Type 0 where
+  passes : Outcome
+  refuses : ℕ → Outcome
 
--- the act that a verdict leaves
-unfoldable pub ruled : Verdict → Act → Act
-ruled Pass act = act
-ruled (Refuse n) act = Refused n
+-- the first that applies
+unfoldable pub first : List Check → Outcome
+first [] = passes
+first (check n applies ∷ cs) = cond applies (refuses n) (first cs)
+
+-- the act that an outcome leaves
+unfoldable pub ruled : Outcome → Act → Act
+ruled passes act = act
+ruled (refuses n) act = Refused n

@@ -8,21 +8,22 @@ use Rattle.value.specs.Block.{bitsIn, addressIn}
 use Rattle.value.specs.Sum.{plusOf, minusOf}
 use Rattle.value.specs.declared.sum.Total.{Total}
 use Rattle.value.specs.declared.sum.Total.the-variants.{Fits, Outside}
+use Rattle.access.specs.declared.rights.Operation.the-variants as column
 use Rattle.session.specs.declared.Kind.{Kind}
 use Rattle.session.specs.declared.Kind.the-variants.{Increment, Decrement, Restore}
-use Rattle.session.specs.declared.Stage.the-variants.{WriteWaits, ValueWaits}
 use Rattle.session.specs.declared.Register.{Register}
 use Rattle.session.specs.declared.Register.the-variants.{Empty, Full}
 use Rattle.session.specs.declared.Session.{Session}
 use Rattle.frame.specs.Command.{commandOf}
-use Rattle.frame.specs.declared.Deed.{Deed}
-use Rattle.frame.specs.declared.Deed.the-variants.{Read, Write, Store, Begin, Apply, Transfer}
 use Rattle.frame.specs.declared.Command.{Command}
-use Rattle.frame.specs.declared.Command.the-variants.{Unknown, Authenticate, Memory, Halt}
+use Rattle.frame.specs.declared.Command.the-variants.{Unknown, Authenticate, Read, Write, Store, Begin, Apply, Transfer, Halt}
 use Rattle.judge.specs.First.{first, ruled}
-use Rattle.judge.specs.Checks.{checksOf, authenticateChecks, frameChecks}
+use Rattle.judge.specs.Checks.{accessOf, checksOf, frameChecks}
+use Rattle.judge.specs.Grant.{grantOf}
+use Rattle.judge.specs.declared.checks.Verdict.{Verdict}
+use Rattle.judge.specs.declared.checks.Verdict.the-variants.{Refuse, Whole, InParts}
 use Rattle.judge.specs.declared.Act.{Act}
-use Rattle.judge.specs.declared.Act.the-variants.{Refused, Authenticated, Shown, Waits, Stored, Loaded, Moved, Halted}
+use Rattle.judge.specs.declared.Act.the-variants.{Refused, Authenticated, Shown, TrailerShown, WriteWaits, ValueWaits, Stored, TrailerStored, Loaded, Moved, Halted}
 
 -- what a value operation makes of a value; Restore leaves it
 unfoldable pub totalFor : Kind → ℕ → ℕ → Total
@@ -45,21 +46,32 @@ unfoldable pub moveOf : Register → Block → Act
 moveOf Empty b = Refused 9
 moveOf (Full v a) b = Moved b v a
 
--- what a deed does once its checks have passed
-unfoldable pub doneOf : List ℕ → Session → Deed → Block → List ℕ → Act
-doneOf image s Read b frame = Shown b
-doneOf image s Write b frame = Waits (WriteWaits b)
-doneOf image s Store b frame = Stored b
-doneOf image s (Begin k) b frame = Waits (ValueWaits k b)
-doneOf image s (Apply k) b frame = appliedOf image k b frame
-doneOf image s Transfer b frame = moveOf (s .register) b
+-- a Read shows and a Write stores what is granted of the block
+unfoldable pub shownAs : Block → Verdict → Act
+shownAs b (Refuse n) = Refused n
+shownAs b Whole = Shown b
+shownAs b (InParts m) = TrailerShown b m
 
--- what a command does; 1 refuses an unknown one
+unfoldable pub storedAs : Block → Verdict → Act
+storedAs b (Refuse n) = Refused n
+storedAs b Whole = Stored b
+storedAs b (InParts m) = TrailerStored b m
+
+-- what a command does once its checks have passed; 1 has refused an unknown one
+unfoldable pub doneOf : List ℕ → Session → Command → List ℕ → Act
+doneOf image s Unknown frame = Refused 1
+doneOf image s (Authenticate b l) frame = Authenticated (sectorOf b) l
+doneOf image s (Read b) frame = shownAs b (grantOf (accessOf image b) (s .auth) column.Read b)
+doneOf image s (Write b) frame = WriteWaits b
+doneOf image s (Store b) frame = storedAs b (grantOf (accessOf image b) (s .auth) column.Write b)
+doneOf image s (Begin b k) frame = ValueWaits b k
+doneOf image s (Apply b k) frame = appliedOf image k b frame
+doneOf image s (Transfer b) frame = moveOf (s .register) b
+doneOf image s Halt frame = Halted
+
+-- what a command comes to
 unfoldable pub commandedOf : List ℕ → Session → Command → List ℕ → Act
-commandedOf image s Unknown frame = Refused 1
-commandedOf image s (Authenticate l b) frame = ruled (first (authenticateChecks image l b frame)) (Authenticated (sectorOf b) l)
-commandedOf image s (Memory d b) frame = ruled (first (checksOf image s d b)) (doneOf image s d b frame)
-commandedOf image s Halt frame = Halted
+commandedOf image s c frame = ruled (first (checksOf image s c frame)) (doneOf image s c frame)
 
 -- what a frame does
 unfoldable pub judgeOf : List ℕ → Session → List ℕ → Act

@@ -1,10 +1,13 @@
 // The checks, as code.
 ghost use mathlib.Core.Path.{_≡_};
+ghost use mathlib.Core.Bool.{not, false, true, cond, _||_};
 ghost use mathlib.Core.List.{[], _∷_};
-ghost use Rattle.layout.specs.Layout.{isTrailer};
+ghost use Rattle.access.specs.Rights.{writableOf};
 ghost use Rattle.judge.specs.First.{check, first};
-ghost use Rattle.judge.specs.Checks.{noCard, isKey, isBlocked, isForbidden, trailerRight, rightOf, hasRight, noRight, memoryChecks};
-ghost use lib.Dec.{eqb};
+ghost use Rattle.judge.specs.Checks.{noCard, isKey, isForbidden, trailerRight, rightOf};
+ghost use Rattle.judge.specs.Grant.{trailerGrant, granted, verdictOf};
+ghost use Rattle.judge.specs.Code.{guardedOf, letterOf};
+ghost use Rattle.judge.specs.declared.checks.Verdict.the-variants.{Whole};
 use access::AccessBytes;
 use access::Bits;
 use access::Letter;
@@ -14,10 +17,11 @@ use layout::Block;
 use layout::Group;
 use session::Auth;
 
-// What a list of checks comes to.
+// What the checks of a memory command leave: a refusal, its block whole, or a trailer by its parts, with the trailer's bits.
 pub enum Verdict {
-    Pass,
     Refuse(u8),
+    Whole,
+    InParts(u8),
 }
 
 pub(crate) fn is_no_card(image: &[u8]) -> bool
@@ -52,77 +56,105 @@ pub(crate) fn is_key(t: [u8; 16], l: Letter, frame: &[u8]) -> bool
     }
 }
 
-fn is_forbidden(o: Operation, zero: bool, trailer: bool) -> bool
-    ensures { λ r. ⌜ r ≡ isForbidden o zero trailer ⌝ }
+// Is the operation forbidden on a data block, which may be block 0?
+fn is_forbidden(o: Operation, zero: bool) -> bool
+    ensures { λ r. ⌜ r ≡ isForbidden o zero false ⌝ }
 {
     match o {
         Operation::Read => false,
         Operation::Write => zero,
-        Operation::Increment => zero | trailer,
-        Operation::Decrement => zero | trailer,
+        Operation::Increment => zero,
+        Operation::Decrement => zero,
     }
 }
 
-fn trailer_right(o: Operation, p: Parts) -> bool
-    ensures { λ r. ⌜ r ≡ trailerRight o p ⌝ }
+// Checks 6 and 7 of a data block with the bits n, in a sector whose trailer has the bits m.
+fn data_rule(l: Letter, o: Operation, zero: bool, n: u8, m: u8) -> Verdict
+    ensures { λ r. ⌜ r ≡ granted (first (check 6 (isForbidden o zero false) ∷ check 7 (not (rightOf l o false n m)) ∷ [])) Whole ⌝ }
+{
+    if is_forbidden(o, zero) {
+        return Verdict::Refuse(6);
+    }
+    if access::is_mute(l, m) {
+        return Verdict::Refuse(7);
+    }
+    if access::may(l, o, n) {
+        return Verdict::Whole;
+    }
+    Verdict::Refuse(7)
+}
+
+// Check 7 of a Write into a trailer.
+fn write_rule(mute: bool, p: Parts, m: u8) -> Verdict
+    ensures { λ r. ⌜ r ≡ granted (first (check 7 (mute || not (trailerRight Operation.Write p)) ∷ [])) (trailerGrant Operation.Write p m) ⌝ }
 {
     let a = p.a;
     let bits = p.bits;
     let b = p.b;
+    if mute {
+        return Verdict::Refuse(7);
+    }
+    if a & bits & b {
+        return Verdict::Whole;
+    }
+    if a | bits | b {
+        return Verdict::InParts(m);
+    }
+    Verdict::Refuse(7)
+}
+
+// Check 7 of a Read of a trailer, whose only bar is a readable key B.
+fn read_rule(mute: bool, m: u8) -> Verdict
+    ensures { λ r. ⌜ r ≡ cond mute (Verdict.Refuse 7) (Verdict.InParts m) ⌝ }
+{
+    if mute {
+        return Verdict::Refuse(7);
+    }
+    Verdict::InParts(m)
+}
+
+// Checks 6 and 7 of a trailer with the bits m.
+fn trailer_rule(l: Letter, o: Operation, m: u8) -> Verdict
+    ensures { λ r. ⌜ r ≡ granted (first (check 6 (isForbidden o false true) ∷ check 7 (not (rightOf l o true m m)) ∷ [])) (trailerGrant o (writableOf l m) m) ⌝ }
+{
     match o {
-        Operation::Read => true,
-        Operation::Write => a | bits | b,
-        Operation::Increment => false,
-        Operation::Decrement => false,
-    }
-}
-
-// The right of a key to a block with the bits n, in a sector whose trailer has the bits m.
-fn right_of(l: Letter, o: Operation, trailer: bool, n: u8, m: u8) -> bool
-    ensures { λ r. ⌜ r ≡ rightOf l o trailer n m ⌝ }
-{
-    if access::is_mute(l, m) {
-        return false;
-    }
-    if trailer {
-        return trailer_right(o, access::writable(l, n));
-    }
-    access::may(l, o, n)
-}
-
-fn has_right(auth: Auth, o: Operation, trailer: bool, n: u8, m: u8) -> bool
-    ensures { λ r. ⌜ r ≡ hasRight auth o trailer n m ⌝ }
-{
-    match auth {
-        Auth::Nobody => false,
-        Auth::As(_, l) => right_of(l, o, trailer, n, m),
+        Operation::Read => read_rule(access::is_mute(l, m), m),
+        Operation::Write => write_rule(access::is_mute(l, m), access::writable(l, m), m),
+        Operation::Increment => Verdict::Refuse(6),
+        Operation::Decrement => Verdict::Refuse(6),
     }
 }
 
 // Checks 5, 6 and 7, by the access bytes of the block's sector.
-fn guarded(x: AccessBytes, auth: Auth, o: Operation, b: Block) -> Verdict
-    ensures { λ r. ⌜ r ≡ first (check 5 (isBlocked x) ∷ check 6 (isForbidden o (eqb (b .0) 0) (isTrailer b)) ∷ check 7 (noRight x auth o b) ∷ []) ⌝ }
+fn guarded(x: AccessBytes, l: Letter, o: Operation, b: Block) -> Verdict
+    ensures { λ r. ⌜ r ≡ guardedOf x l o b ⌝ }
 {
     let zero = b.0 == 0;
-    let Bits::Are(n) = access::bits_of(x, layout::group_of(b)) else {
+    let g = layout::group_of(b);
+    let Bits::Are(n) = access::bits_of(x, g) else {
         return Verdict::Refuse(5);
     };
     let Bits::Are(m) = access::bits_of(x, Group::Trailer) else {
         return Verdict::Refuse(5);
     };
-    let trailer = layout::is_trailer(b);
-    if is_forbidden(o, zero, trailer) {
-        return Verdict::Refuse(6);
+    match g {
+        Group::Trailer => trailer_rule(l, o, n),
+        _ => data_rule(l, o, zero, n, m),
     }
-    if !has_right(auth, o, trailer, n, m) {
-        return Verdict::Refuse(7);
+}
+
+fn letter_of(auth: Auth) -> Letter
+    ensures { λ r. ⌜ r ≡ letterOf auth ⌝ }
+{
+    match auth {
+        Auth::Nobody => Letter::KeyA,
+        Auth::As(_, l) => l,
     }
-    Verdict::Pass
 }
 
 // Checks 2, 3, 5, 6 and 7, which every memory command has to pass.
-pub(crate) fn refusal(image: &[u8], auth: Auth, o: Operation, b: Block) -> Verdict
-    ensures { λ r. ⌜ r ≡ first (memoryChecks (now (image .entry)) auth o b) ⌝ }
+pub(crate) fn memory_verdict(image: &[u8], auth: Auth, o: Operation, b: Block) -> Verdict
+    ensures { λ r. ⌜ r ≡ verdictOf (now (image .entry)) auth o b ⌝ }
 {
     if !layout::has_block(image.len(), b) {
         return Verdict::Refuse(2);
@@ -132,5 +164,5 @@ pub(crate) fn refusal(image: &[u8], auth: Auth, o: Operation, b: Block) -> Verdi
         return Verdict::Refuse(3);
     }
     let t = memory::content(image, layout::trailer_of(s));
-    guarded(access::access_bytes_of(t), auth, o, b)
+    guarded(access::access_bytes_of(t), letter_of(auth), o, b)
 }

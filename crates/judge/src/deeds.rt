@@ -1,44 +1,46 @@
-// Each command: its checks, and then what it does.
+// Each command: its checks, and then what it does. A case ends in one expression, so that the act it makes is taken up where it is made.
 ghost use mathlib.Core.Path.{_≡_};
+ghost use mathlib.Core.Bool.{true};
 ghost use mathlib.Core.List.{[], _∷_};
-ghost use Prim.Native.Nat.{_<_};
 ghost use Rattle.layout.specs.Layout.{sectorOf};
-ghost use Rattle.value.specs.Block.{bitsIn};
 ghost use Rattle.judge.specs.First.{check, first, ruled};
-ghost use Rattle.judge.specs.Checks.{authenticateChecks, checksOf, noValue, kindColumn, columnOf};
-ghost use Rattle.judge.specs.Judge.{totalFor, loadOf, appliedOf, moveOf, doneOf};
+ghost use Rattle.judge.specs.Checks.{authenticateChecks, kindColumn};
+ghost use Rattle.judge.specs.Code.{columnOf, blockOf, isMemory};
+ghost use Rattle.judge.specs.Judge.{moveOf, commandedOf};
 ghost use Rattle.session.specs.Session.{isEmpty};
 use crate::Act;
 use crate::checks;
 use crate::checks::Verdict;
+use crate::values;
 use access::Bits;
 use access::Letter;
 use access::Operation;
-use frame::Deed;
+use frame::Command;
 use layout::Block;
 use layout::Group;
 use session::Kind;
 use session::Register;
 use session::Session;
-use session::Stage;
-use value::Decoded;
-use value::Total;
 
 pub(crate) fn authenticate(image: &[u8], l: Letter, b: Block, frame: &[u8]) -> Act
     ensures { λ r. ⌜ r ≡ ruled (first (authenticateChecks (now (image .entry)) l b (now (frame .entry)))) (Act.Authenticated (sectorOf b) l) ⌝ }
 {
-    if !layout::has_block(image.len(), b) {
-        return Act::Refused(2);
+    if layout::has_block(image.len(), b) {
+        let s = layout::sector_of(b);
+        let t = memory::content(image, layout::trailer_of(s));
+        match access::bits_of(access::access_bytes_of(t), Group::Trailer) {
+            Bits::Blocked => Act::Refused(5),
+            Bits::Are(_) => {
+                if checks::is_key(t, l, frame) {
+                    Act::Authenticated(s, l)
+                } else {
+                    Act::Refused(4)
+                }
+            }
+        }
+    } else {
+        Act::Refused(2)
     }
-    let s = layout::sector_of(b);
-    let t = memory::content(image, layout::trailer_of(s));
-    let Bits::Are(_) = access::bits_of(access::access_bytes_of(t), Group::Trailer) else {
-        return Act::Refused(5);
-    };
-    if !checks::is_key(t, l, frame) {
-        return Act::Refused(4);
-    }
-    Act::Authenticated(s, l)
 }
 
 fn kind_column(k: Kind) -> Operation
@@ -51,73 +53,35 @@ fn kind_column(k: Kind) -> Operation
     }
 }
 
-fn column_of(d: Deed) -> Operation
-    ensures { λ r. ⌜ r ≡ columnOf d ⌝ }
+fn column_of(c: Command) -> Operation
+    ensures { λ r. ⌜ r ≡ columnOf c ⌝ }
 {
-    match d {
-        Deed::Read => Operation::Read,
-        Deed::Write => Operation::Write,
-        Deed::Store => Operation::Write,
-        Deed::Begin(k) => kind_column(k),
-        Deed::Apply(k) => kind_column(k),
-        Deed::Transfer => Operation::Decrement,
+    match c {
+        Command::Unknown => Operation::Read,
+        Command::Authenticate(_, _) => Operation::Read,
+        Command::Read(_) => Operation::Read,
+        Command::Write(_) => Operation::Write,
+        Command::Store(_) => Operation::Write,
+        Command::Begin(_, k) => kind_column(k),
+        Command::Apply(_, k) => kind_column(k),
+        Command::Transfer(_) => Operation::Decrement,
+        Command::Halt => Operation::Read,
     }
 }
 
-// A value operation's first frame after the shared checks: 8, and then its second frame is awaited.
-fn begin(image: &[u8], k: Kind, b: Block) -> Act
-    ensures { λ r. ⌜ r ≡ ruled (first (check 8 (noValue (now (image .entry)) b) ∷ [])) (Act.Waits (Stage.ValueWaits k b)) ⌝ }
+fn block_of(c: Command) -> Block
+    ensures { λ r. ⌜ r ≡ blockOf c ⌝ }
 {
-    match value::decode(memory::content(image, b)) {
-        Decoded::NoValue => Act::Refused(8),
-        Decoded::Value(_, _) => Act::Waits(Stage::ValueWaits(k, b)),
-    }
-}
-
-fn total(k: Kind, value: u32, operand: u32) -> Total
-    ensures { λ r. ⌜ r ≡ totalFor k value operand ⌝ }
-{
-    match k {
-        Kind::Increment => value::plus(value, operand),
-        Kind::Decrement => value::minus(value, operand),
-        Kind::Restore => Total::Fits(value),
-    }
-}
-
-fn load(t: Total, address: u8) -> Act
-    ensures { λ r. ⌜ r ≡ loadOf t address ⌝ }
-{
-    match t {
-        Total::Fits(v) => Act::Loaded(v, address),
-        Total::Outside => Act::Refused(10),
-    }
-}
-
-fn wide(b: u8) -> u32
-    ensures { λ r. ⌜ (r ≡ b) × (r < 256) ⌝ }
-{
-    b as u32
-}
-
-// The first four bytes of a frame, low byte first.
-fn operand_of(frame: &[u8]) -> u32
-    ensures { λ r. ⌜ r ≡ bitsIn (now (frame .entry)) ⌝ }
-{
-    let f0 = wide(frame::byte(frame, 0));
-    let f1 = wide(frame::byte(frame, 1));
-    let f2 = wide(frame::byte(frame, 2));
-    let f3 = wide(frame::byte(frame, 3));
-    f0 + 256 * f1 + 65536 * f2 + 16777216 * f3
-}
-
-// A value operation's second frame after the shared checks: 8, 10, and then the result is loaded.
-fn apply(image: &[u8], k: Kind, b: Block, frame: &[u8]) -> Act
-    ensures { λ r. ⌜ r ≡ ruled (first (check 8 (noValue (now (image .entry)) b) ∷ [])) (appliedOf (now (image .entry)) k b (now (frame .entry))) ⌝ }
-{
-    let operand = operand_of(frame);
-    match value::decode(memory::content(image, b)) {
-        Decoded::NoValue => Act::Refused(8),
-        Decoded::Value(v, a) => load(total(k, v, operand), a),
+    match c {
+        Command::Unknown => Block(0),
+        Command::Authenticate(b, _) => b,
+        Command::Read(b) => b,
+        Command::Write(b) => b,
+        Command::Store(b) => b,
+        Command::Begin(b, _) => b,
+        Command::Apply(b, _) => b,
+        Command::Transfer(b) => b,
+        Command::Halt => Block(0),
     }
 }
 
@@ -132,21 +96,28 @@ fn transfer(register: Register, b: Block) -> Act
 }
 
 // A memory command: its checks, then what it does.
-pub(crate) fn perform(image: &[u8], s: Session, d: Deed, b: Block, frame: &[u8]) -> Act
-    ensures { λ r. ⌜ r ≡ ruled (first (checksOf (now (image .entry)) s d b)) (doneOf (now (image .entry)) s d b (now (frame .entry))) ⌝ }
+pub(crate) fn perform(image: &[u8], s: Session, c: Command, frame: &[u8]) -> Act
+    requires { ⌜ isMemory c ≡ true ⌝ }
+    ensures { λ r. ⌜ r ≡ commandedOf (now (image .entry)) s c (now (frame .entry)) ⌝ }
 {
     let auth = s.auth;
     let register = s.register;
-    let v = checks::refusal(image, auth, column_of(d), b);
-    if let Verdict::Refuse(n) = v {
-        return Act::Refused(n);
-    }
-    match d {
-        Deed::Read => Act::Shown(b),
-        Deed::Write => Act::Waits(Stage::WriteWaits(b)),
-        Deed::Store => Act::Stored(b),
-        Deed::Begin(k) => begin(image, k, b),
-        Deed::Apply(k) => apply(image, k, b, frame),
-        Deed::Transfer => transfer(register, b),
+    match checks::memory_verdict(image, auth, column_of(c), block_of(c)) {
+        Verdict::Refuse(n) => Act::Refused(n),
+        Verdict::InParts(m) => match c {
+            Command::Read(b) => Act::TrailerShown(b, m),
+            Command::Write(b) => Act::WriteWaits(b),
+            Command::Store(b) => Act::TrailerStored(b, m),
+            _ => Act::Refused(6),
+        },
+        Verdict::Whole => match c {
+            Command::Read(b) => Act::Shown(b),
+            Command::Write(b) => Act::WriteWaits(b),
+            Command::Store(b) => Act::Stored(b),
+            Command::Begin(b, k) => values::begin(image, k, b),
+            Command::Apply(b, k) => values::apply(image, k, b, frame),
+            Command::Transfer(b) => transfer(register, b),
+            _ => Act::Refused(1),
+        },
     }
 }

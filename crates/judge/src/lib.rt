@@ -4,22 +4,27 @@ ghost use Rattle.judge.specs.Judge.{judgeOf};
 
 mod checks;
 mod deeds;
+mod values;
 
 use access::Letter;
 pub use checks::Verdict;
 use frame::Command;
 use layout::Block;
 use layout::Sector;
+use session::Kind;
 use session::Session;
-use session::Stage;
 
 // What a frame does: it is refused with a number, or accepted with what its effects need.
+// TrailerShown and TrailerStored carry the trailer's bits, which say which parts. A case that has a block has it first.
 pub enum Act {
     Refused(u8),
     Authenticated(Sector, Letter),
     Shown(Block),
-    Waits(Stage),
+    TrailerShown(Block, u8),
+    WriteWaits(Block),
+    ValueWaits(Block, Kind),
     Stored(Block),
+    TrailerStored(Block, u8),
     Loaded(u32, u8),
     Moved(Block, u32, u8),
     Halted,
@@ -30,16 +35,16 @@ pub fn judge(image: &[u8], s: Session, frame: &[u8]) -> Act
 {
     let stage = s.stage;
     if checks::is_no_card(image) {
-        return Act::Refused(11);
-    }
-    if !session::is_coherent(image.len(), s) {
-        return Act::Refused(12);
-    }
-    let c = frame::command_of(stage, frame);
-    match c {
-        Command::Unknown => Act::Refused(1),
-        Command::Authenticate(l, b) => deeds::authenticate(image, l, b, frame),
-        Command::Memory(d, b) => deeds::perform(image, s, d, b, frame),
-        Command::Halt => Act::Halted,
+        Act::Refused(11)
+    } else if session::is_coherent(image.len(), s) {
+        let c = frame::command_of(stage, frame);
+        match c {
+            Command::Unknown => Act::Refused(1),
+            Command::Authenticate(b, l) => deeds::authenticate(image, l, b, frame),
+            Command::Halt => Act::Halted,
+            _ => deeds::perform(image, s, c, frame),
+        }
+    } else {
+        Act::Refused(12)
     }
 }

@@ -12,9 +12,10 @@ use Rattle.layout.specs.Layout.{sectorsOf, blocksIn, blocksOf, hasSector, hasBl
 use Rattle.layout.specs.declared.Block.{Block}
 use Rattle.layout.specs.declared.Sector.{Sector}
 use Rattle.layout.proofs.Laws.{trailer-in-sector, sector-exists, has-sector}
-use Rattle.memory.specs.Memory.{contentOf}
+use Rattle.memory.specs.Memory.{sixteenOf, contentOf}
 use Rattle.memory.proofs.Laws.{store-length, store-back, store-other}
 use Rattle.access.specs.Bits.{accessBytesOf, wellFormed}
+use Rattle.access.specs.Rights.{readableOf}
 use Rattle.access.specs.declared.rights.Operation.{Operation}
 use Rattle.value.specs.Whole.{signed}
 use Rattle.value.specs.Block.{encodeOf}
@@ -22,27 +23,30 @@ use Rattle.value.proofs.Blocks.{encode-length}
 use Rattle.session.specs.Session.{freshOf, fits, coherentOf, inSector}
 use Rattle.session.specs.declared.Auth.{Auth}
 use Rattle.session.specs.declared.Auth.the-variants.{Nobody, As}
-use Rattle.session.specs.declared.Stage.the-variants.{Idle, WriteWaits, ValueWaits}
 use Rattle.session.specs.declared.Session.{Session}
 use Rattle.frame.specs.Command.{blockAt}
 use Rattle.judge.specs.Checks.{accessOf, isForbidden}
+use Rattle.judge.specs.Grant.{writableBy}
 use Rattle.judge.specs.Judge.{judgeOf}
 use Rattle.judge.specs.declared.Act.{Act}
-use Rattle.judge.specs.declared.Act.the-variants.{Refused, Authenticated, Shown, Waits, Stored, Loaded, Moved, Halted}
+use Rattle.judge.specs.declared.Act.the-variants.{Refused, Authenticated, Shown, TrailerShown, WriteWaits, ValueWaits, Stored, TrailerStored, Loaded, Moved, Halted}
 use Rattle.card.specs.Trailer.{zeros, shownTrailer}
-use Rattle.card.specs.Effects.{numberOf, sessionOf, replyOf, shownOf, writtenOf, imageOf}
+use Rattle.card.specs.Effects.{numberOf, sessionOf, replyOf, imageOf}
 use Rattle.card.specs.Step.{answered, answerOf, imageAfter}
-use Rattle.laws.specs.Accepted.{Allowed, Accepted}
+use Rattle.laws.specs.Accepted.{Allowed, trailerBits, Accepted}
 use Rattle.laws.proofs.Sound.{sound}
-use Rattle.laws.proofs.Lengths.{sixteen-same, written-length}
+use Rattle.laws.proofs.Lengths.{sixteen-length, sixteen-same, mixed-length}
 
 -- the act stores into the block: a Write's second frame or a Transfer
 abbrev pub Touches : Act → Block → Type 0
 Touches (Refused n) j = ⊥
 Touches (Authenticated t l) j = ⊥
 Touches (Shown b) j = ⊥
-Touches (Waits w) j = ⊥
+Touches (TrailerShown b m) j = ⊥
+Touches (WriteWaits b) j = ⊥
+Touches (ValueWaits b k) j = ⊥
 Touches (Stored b) j = b .0 ≡ j .0
+Touches (TrailerStored b m) j = b .0 ≡ j .0
 Touches (Loaded v a) j = ⊥
 Touches (Moved b v a) j = b .0 ≡ j .0
 Touches Halted j = ⊥
@@ -98,8 +102,11 @@ module _ (image : List ℕ) (s : Session) (frame : List ℕ) where
       go (Refused n) h = (refl, refl, refl)
       go (Authenticated t l) h = absurd (h refl)
       go (Shown b) h = absurd (h refl)
-      go (Waits w) h = absurd (h refl)
+      go (TrailerShown b m) h = absurd (h refl)
+      go (WriteWaits b) h = absurd (h refl)
+      go (ValueWaits b k) h = absurd (h refl)
       go (Stored b) h = absurd (h refl)
+      go (TrailerStored b m) h = absurd (h refl)
       go (Loaded v a) h = absurd (h refl)
       go (Moved b v a) h = absurd (h refl)
       go Halted h = absurd (h refl)
@@ -113,8 +120,11 @@ module _ (image : List ℕ) (s : Session) (frame : List ℕ) where
       go (Refused n) = refl
       go (Authenticated t l) = refl
       go (Shown b) = refl
-      go (Waits w) = refl
-      go (Stored b) = store-length image b (writtenOf image (s .auth) b frame) (written-length image (s .auth) b frame)
+      go (TrailerShown b m) = refl
+      go (WriteWaits b) = refl
+      go (ValueWaits b k) = refl
+      go (Stored b) = store-length image b (sixteenOf frame) (sixteen-length frame)
+      go (TrailerStored b m) = store-length image b _ (mixed-length (writableBy (s .auth) m) image b frame)
       go (Loaded v a) = refl
       go (Moved b v a) = store-length image b (encodeOf (signed v) a) (encode-length (signed v) a)
       go Halted = refl
@@ -128,8 +138,11 @@ module _ (image : List ℕ) (s : Session) (frame : List ℕ) where
       go (Refused n) h = refl
       go (Authenticated t l) h = refl
       go (Shown b) h = refl
-      go (Waits w) h = refl
-      go (Stored b) h = store-other image b (writtenOf image (s .auth) b frame) (written-length image (s .auth) b frame) j h
+      go (TrailerShown b m) h = refl
+      go (WriteWaits b) h = refl
+      go (ValueWaits b k) h = refl
+      go (Stored b) h = store-other image b (sixteenOf frame) (sixteen-length frame) j h
+      go (TrailerStored b m) h = store-other image b _ (mixed-length (writableBy (s .auth) m) image b frame) j h
       go (Loaded v a) h = refl
       go (Moved b v a) h = store-other image b (encodeOf (signed v) a) (encode-length (signed v) a) j h
       go Halted h = refl
@@ -140,8 +153,11 @@ module _ (image : List ℕ) (s : Session) (frame : List ℕ) where
   touched (Refused n) h j t = absurd t
   touched (Authenticated u l) h j t = absurd t
   touched (Shown b) h j t = absurd t
-  touched (Waits w) h j t = absurd t
+  touched (TrailerShown b m) h j t = absurd t
+  touched (WriteWaits b) h j t = absurd t
+  touched (ValueWaits b k) h j t = absurd t
   touched (Stored b) h j t = (b, t, h .1 .opened, h .1 .lawful)
+  touched (TrailerStored b m) h j t = (b, t, h .1 .opened, h .1 .lawful)
   touched (Loaded v a) h j t = absurd t
   touched (Moved b v a) h j t = (b, t, h .1 .opened, or-left (eqb (b .0) 0) (isTrailer b) (h .1 .lawful))
   touched Halted h j t = absurd t
@@ -169,20 +185,25 @@ module _ (image : List ℕ) (s : Session) (frame : List ℕ) where
           absurd (false≢true q)
 
   -- an accepted Read of a data block returns the block; of a trailer, the block with its keys blanked by rule
-  pub read-data : (b : Block) → judgeOf image s frame ≡ Shown b → isTrailer b ≡ false → answerOf image s frame .reply ≡ contentOf image b
-  unfolding answerOf answered replyOf shownOf
-  read-data b e t = rw (e, t)
+  pub read-data : (b : Block) → judgeOf image s frame ≡ Shown b → (isTrailer b ≡ false) × (answerOf image s frame .reply ≡ contentOf image b)
+  unfolding answerOf answered replyOf
+  read-data b e =
+      let h : Accepted image s frame (Shown b) = rw e at (sound image s frame) in
+      (h .2, rw e)
 
-  pub read-trailer : (b : Block) → judgeOf image s frame ≡ Shown b → isTrailer b ≡ true → answerOf image s frame .reply ≡ shownTrailer (contentOf image b)
-  unfolding answerOf answered replyOf shownOf
-  read-trailer b e t = rw (e, t)
+  pub read-trailer : (b : Block) (m : ℕ) → judgeOf image s frame ≡ TrailerShown b m
+      → (isTrailer b ≡ true) × (answerOf image s frame .reply ≡ shownTrailer (readableOf (trailerBits image b)) (contentOf image b))
+  unfolding answerOf answered replyOf
+  read-trailer b m e =
+      let h : Accepted image s frame (TrailerShown b m) = rw e at (sound image s frame) in
+      (h .2, rw (e, h .3))
 
-  -- an accepted data Write leaves the sixteen bytes of its frame in the block
-  pub write-stored : (b : Block) → judgeOf image s frame ≡ Stored b → isTrailer b ≡ false → contentOf (imageAfter image s frame) b ≡ frame
-  unfolding imageAfter imageOf writtenOf
-  write-stored b e t =
+  -- an accepted Write that may write the whole block leaves the sixteen bytes of its frame in it
+  pub write-stored : (b : Block) → judgeOf image s frame ≡ Stored b → contentOf (imageAfter image s frame) b ≡ frame
+  unfolding imageAfter imageOf
+  write-stored b e =
       let h : Accepted image s frame (Stored b) = rw e at (sound image s frame) in
-      rw (e, t, sixteen-same frame (h .2)) (store-back image b frame (h .2) (h .1 .has))
+      rw (e, sixteen-same frame (h .2)) (store-back image b frame (h .2) (h .1 .has))
 
   -- the session after every frame is coherent
   pub stays-coherent : coherentOf (length (imageAfter image s frame)) (answerOf image s frame .session) ≡ true
@@ -196,29 +217,31 @@ module _ (image : List ℕ) (s : Session) (frame : List ℕ) where
       go (Refused n) h = refl
       go (Authenticated t l) h = ap (hasSector (length image)) (h .1 .sector) ∙ has-sector (length image) (h .1 .block) (h .1 .has)
       go (Shown b) h = held _ b (h .1) _
-      go (Waits Idle) h = absurd (h .1)
-      go (Waits (WriteWaits b)) h = held _ b (h .1) _
-      go (Waits (ValueWaits k b)) h = held _ b (h .1 .allowed) _
+      go (TrailerShown b m) h = held _ b (h .1) _
+      go (WriteWaits b) h = held _ b (h .1) _
+      go (ValueWaits b k) h = held _ b (h .1 .allowed) _
       go (Stored b) h = held _ b (h .1) _
+      go (TrailerStored b m) h = held _ b (h .1) _
       go (Loaded v a) h = held _ (h .source) (h .countable .allowed) _
       go (Moved b v a) h = held _ b (h .1) _
       go Halted h = refl
 
--- what an accepted data Write stored, a permitted Read gives back
-pub write-read : (image : List ℕ) (s later : Session) (frame read : List ℕ) (b : Block) → judgeOf image s frame ≡ Stored b → isTrailer b ≡ false
+-- what such a Write stored, a permitted Read of a data block gives back
+pub write-read : (image : List ℕ) (s later : Session) (frame read : List ℕ) (b : Block) → judgeOf image s frame ≡ Stored b
     → judgeOf (imageAfter image s frame) later read ≡ Shown b → answerOf (imageAfter image s frame) later read .reply ≡ frame
-write-read image s later frame read b e t r =
-    read-data (imageAfter image s frame) later read b r t ∙ write-stored image s frame b e t
+write-read image s later frame read b e r =
+    read-data (imageAfter image s frame) later read b r .1 ∙ write-stored image s frame b e
 
 -- the block's sector is the one that an act is about
 abbrev pub Concerns : Act → Session → Block → Type 0
 Concerns (Refused n) s b = ⊥
 Concerns (Authenticated t l) s b = t ≡ sectorOf b
 Concerns (Shown c) s b = sectorOf c ≡ sectorOf b
-Concerns (Waits Idle) s b = ⊥
-Concerns (Waits (WriteWaits c)) s b = sectorOf c ≡ sectorOf b
-Concerns (Waits (ValueWaits k c)) s b = sectorOf c ≡ sectorOf b
+Concerns (TrailerShown c m) s b = sectorOf c ≡ sectorOf b
+Concerns (WriteWaits c) s b = sectorOf c ≡ sectorOf b
+Concerns (ValueWaits c k) s b = sectorOf c ≡ sectorOf b
 Concerns (Stored c) s b = sectorOf c ≡ sectorOf b
+Concerns (TrailerStored c m) s b = sectorOf c ≡ sectorOf b
 Concerns (Loaded v a) s b = inSector (s .auth) (sectorOf b) ≡ true
 Concerns (Moved c v a) s b = sectorOf c ≡ sectorOf b
 Concerns Halted s b = ⊥
@@ -236,10 +259,11 @@ blocked-refused image s frame b e = go (judgeOf image s frame) (sound image s fr
     go (Refused n) h q = q
     go (Authenticated t l) h q = no (h .1 .block) (sym (h .1 .sector) ∙ q) (h .1 .opened)
     go (Shown c) h q = no c q (h .1 .opened)
-    go (Waits Idle) h q = q
-    go (Waits (WriteWaits c)) h q = no c q (h .1 .opened)
-    go (Waits (ValueWaits k c)) h q = no c q (h .1 .allowed .opened)
+    go (TrailerShown c m) h q = no c q (h .1 .opened)
+    go (WriteWaits c) h q = no c q (h .1 .opened)
+    go (ValueWaits c k) h q = no c q (h .1 .allowed .opened)
     go (Stored c) h q = no c q (h .1 .opened)
+    go (TrailerStored c m) h q = no c q (h .1 .opened)
     go (Loaded v a) h q = no (h .source) (one-sector (s .auth) (sectorOf (h .source)) (sectorOf b) (h .countable .allowed .own) q) (h .countable .allowed .opened)
     go (Moved c v a) h q = no c q (h .1 .opened)
     go Halted h q = q

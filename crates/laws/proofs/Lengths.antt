@@ -9,14 +9,11 @@ use lib.Dec.{leb}
 use lib.ListN.{length, take, drop, length-append, length-drop}
 use lib.Seq.{length-take-le, take-all}
 use borrow.Author.Tests.{leb-true, le-leb}
-use Rattle.layout.specs.Layout.{isTrailer}
 use Rattle.layout.specs.declared.Block.{Block}
 use Rattle.memory.specs.Memory.{sixteenOf, contentOf}
 use Rattle.memory.proofs.Laws.{content-length}
 use Rattle.access.specs.declared.rights.Parts.{Parts}
-use Rattle.session.specs.declared.Auth.{Auth}
-use Rattle.card.specs.Trailer.{joinOf, mixedOf, ownBits, writableBy}
-use Rattle.card.specs.Effects.{writtenOf}
+use Rattle.card.specs.Trailer.{joinOf, mixedOf}
 
 pub sixteen-length : (bytes : List ℕ) → length (sixteenOf bytes) ≡ 16
 unfolding sixteenOf
@@ -42,13 +39,9 @@ one-of : (t : Bool) (x y : List ℕ) → length x ≡ 16 → length y ≡ 16 →
 one-of true x y l m = l
 one-of false x y l m = m
 
-mixed-length : (p : Parts) (old new : List ℕ) → length old ≡ 16 → length new ≡ 16 → length (mixedOf p old new) ≡ 16
+pub mixed-length : (p : Parts) (image : List ℕ) (b : Block) (frame : List ℕ) → length (mixedOf p (contentOf image b) (sixteenOf frame)) ≡ 16
 unfolding mixedOf
-mixed-length p old new l m = join-length _ _ _ (one-of (p .a) new old m l) (one-of (p .bits) new old m l) (one-of (p .b) new old m l)
-
-pub written-length : (image : List ℕ) (auth : Auth) (b : Block) (frame : List ℕ) → length (writtenOf image auth b frame) ≡ 16
-unfolding writtenOf
-written-length image auth b frame =
-    one-of (isTrailer b) _ _
-    (mixed-length (writableBy auth (ownBits (contentOf image b))) (contentOf image b) (sixteenOf frame) (content-length image b) (sixteen-length frame))
-    (sixteen-length frame)
+mixed-length p image b frame =
+    let old = content-length image b in
+    let new = sixteen-length frame in
+    join-length _ _ _ (one-of (p .a) _ _ new old) (one-of (p .bits) _ _ new old) (one-of (p .b) _ _ new old)

@@ -8,14 +8,17 @@ use native.Mathlib.Omega.{arith}
 use lib.Dec.{eqb}
 use lib.ListN.{length}
 use borrow.Author.Tests.{eqb-true, eq-eqb, not-false}
-use Rattle.layout.specs.Layout.{sectorOf}
+use Rattle.layout.specs.Layout.{sectorOf, isTrailer}
 use Rattle.layout.specs.declared.Block.{Block}
 use Rattle.memory.specs.Memory.{contentOf}
 use Rattle.access.specs.declared.rights.Letter.{Letter}
 use Rattle.access.specs.declared.rights.Operation.{Operation}
+use Rattle.access.specs.declared.rights.Operation.the-variants as column
+use Rattle.access.specs.declared.rights.Parts.{Parts}
 use Rattle.value.specs.Block.{bitsIn, addressIn}
 use Rattle.value.specs.declared.sum.Total.{Total}
 use Rattle.value.specs.declared.sum.Total.the-variants.{Fits, Outside}
+use Rattle.session.specs.Session.{isEmpty}
 use Rattle.session.specs.declared.Auth.{Auth}
 use Rattle.session.specs.declared.Kind.{Kind}
 use Rattle.session.specs.declared.Stage.{Stage}
@@ -24,24 +27,24 @@ use Rattle.session.specs.declared.Register.{Register}
 use Rattle.session.specs.declared.Register.the-variants.{Empty, Full}
 use Rattle.session.specs.declared.Session.{Session}
 use Rattle.frame.specs.Command.{commandOf, firstOf, eightOf, twoOf}
-use Rattle.frame.specs.declared.Deed.the-variants.{Read, Write, Store, Begin, Apply, Transfer}
 use Rattle.frame.specs.declared.Command.{Command}
-use Rattle.frame.specs.declared.Command.the-variants.{Unknown, Authenticate, Memory, Halt}
-use Rattle.judge.specs.First.{Check, check, first, ruled}
-use Rattle.judge.specs.Checks.{noBlock, otherSector, isBlocked, wrongKey, noValue, kindColumn, columnOf, memoryChecks, checksOf, authenticateChecks, frameChecks}
-use Rattle.judge.specs.Judge.{totalFor, loadOf, appliedOf, moveOf, doneOf, commandedOf, judgeOf}
+use Rattle.frame.specs.declared.Command.the-variants.{Unknown, Authenticate, Read, Write, Store, Begin, Apply, Transfer, Halt}
+use Rattle.judge.specs.First.{Check, check, passes, first, ruled}
+use Rattle.judge.specs.Checks.{accessOf, noBlock, otherSector, isBlocked, wrongKey, noValue, kindColumn, memoryChecks, checksOf, authenticateChecks, frameChecks}
+use Rattle.judge.specs.Grant.{writableBy, trailerGrant, grantOf}
+use Rattle.judge.specs.Judge.{totalFor, loadOf, appliedOf, moveOf, shownAs, storedAs, doneOf, commandedOf, judgeOf}
 use Rattle.judge.specs.declared.Act.{Act}
-use Rattle.judge.specs.declared.checks.Verdict.the-variants.{Pass}
-use Rattle.laws.specs.Accepted.{Allowed, Countable, Admitted, Accepted}
+use Rattle.judge.specs.declared.checks.Verdict.the-variants.{Whole, InParts}
+use Rattle.laws.specs.Accepted.{Allowed, Countable, Admitted, trailerBits, Accepted}
 
 -- a list that passes: its first check does not apply, and the rest passes
-next : (n : ℕ) (t : Bool) (cs : List Check) → first (check n t ∷ cs) ≡ Pass → (t ≡ false) × (first cs ≡ Pass)
+next : (n : ℕ) (t : Bool) (cs : List Check) → first (check n t ∷ cs) ≡ passes → (t ≡ false) × (first cs ≡ passes)
 unfolding first
 next n true cs e = (cc, cc)
 next n false cs e = (refl, e)
 
 module _ (image : List ℕ) (auth : Auth) (o : Operation) (b : Block) where
-  allowed : first (memoryChecks image auth o b) ≡ Pass → Allowed image auth o b
+  allowed : first (memoryChecks image auth o b) ≡ passes → Allowed image auth o b
   unfolding memoryChecks noBlock otherSector isBlocked
   allowed e =
       let c2 = next _ _ _ e in
@@ -52,7 +55,7 @@ module _ (image : List ℕ) (auth : Auth) (o : Operation) (b : Block) where
       record { has = not-false _ (c2 .0); own = not-false _ (c3 .0); opened = not-false _ (c5 .0); lawful = c6 .0; entitled = c7 .0 }
 
 -- a list in two parts that passes: both pass
-both : (xs ys : List Check) → first (xs ++ ys) ≡ Pass → (first xs ≡ Pass) × (first ys ≡ Pass)
+both : (xs ys : List Check) → first (xs ++ ys) ≡ passes → (first xs ≡ passes) × (first ys ≡ passes)
 unfolding first
 both [] ys e = (refl, e)
 both (check n true ∷ xs) ys e = (cc, cc)
@@ -61,13 +64,13 @@ both (check n false ∷ xs) ys e = both xs ys e
 -- what a frame was taken for, and from which stage
 data Came (frame : List ℕ) : Stage → Command → Type 0 where
   unknown : {w : Stage} → Came frame w Unknown
-  authenticate : (l : Letter) (b : Block) → Came frame Idle (Authenticate l b)
-  reads : (b : Block) → Came frame Idle (Memory Read b)
-  writes : (b : Block) → Came frame Idle (Memory Write b)
-  stores : (b : Block) → length frame ≡ 16 → Came frame (WriteWaits b) (Memory Store b)
-  begins : (k : Kind) (b : Block) → Came frame Idle (Memory (Begin k) b)
-  applies : (k : Kind) (b : Block) → Came frame (ValueWaits k b) (Memory (Apply k) b)
-  transfers : (b : Block) → Came frame Idle (Memory Transfer b)
+  authenticate : (b : Block) (l : Letter) → Came frame Idle (Authenticate b l)
+  reads : (b : Block) → Came frame Idle (Read b)
+  writes : (b : Block) → Came frame Idle (Write b)
+  stores : (b : Block) → length frame ≡ 16 → Came frame (WriteWaits b) (Store b)
+  begins : (b : Block) (k : Kind) → Came frame Idle (Begin b k)
+  applies : (b : Block) (k : Kind) → Came frame (ValueWaits k b) (Apply b k)
+  transfers : (b : Block) → Came frame Idle (Transfer b)
   halts : Came frame Idle Halt
 
 either : (frame : List ℕ) (w : Stage) (t : Bool) (x y : Command) → Came frame w x → Came frame w y → Came frame w (cond t x y)
@@ -96,10 +99,10 @@ came Idle frame =
     either frame Idle (eqb (length frame) 8) _ _ (eight frame _ _) (either frame Idle (eqb (length frame) 2) _ _ (two frame _ _) unknown)
 came (WriteWaits b) frame = go (eqb (length frame) 16) refl
   where
-    go : (t : Bool) → eqb (length frame) 16 ≡ t → Came frame (WriteWaits b) (cond t (Memory Store b) Unknown)
+    go : (t : Bool) → eqb (length frame) 16 ≡ t → Came frame (WriteWaits b) (cond t (Store b) Unknown)
     go true e = stores b (eqb-true (length frame) 16 e)
     go false e = unknown
-came (ValueWaits k b) frame = either frame (ValueWaits k b) (eqb (length frame) 4) _ _ (applies k b) unknown
+came (ValueWaits k b) frame = either frame (ValueWaits k b) (eqb (length frame) 4) _ _ (applies b k) unknown
 
 -- no check's number is 0
 abbrev numbered : List Check → Bool
@@ -114,17 +117,41 @@ rest true y h = h
 rest false y h = absurd (false≢true h)
 
 module _ (image : List ℕ) (s : Session) (frame : List ℕ) where
-  rule : (cs : List Check) (act : Act) → numbered cs ≡ true → (first cs ≡ Pass → Accepted image s frame act) → Accepted image s frame (ruled (first cs) act)
+  rule : (cs : List Check) (act : Act) → numbered cs ≡ true → (first cs ≡ passes → Accepted image s frame act) → Accepted image s frame (ruled (first cs) act)
   unfolding first ruled
   rule [] act h f = f refl
   rule (check n true ∷ cs) act h f = not-zero n (numbered cs) h
   rule (check n false ∷ cs) act h f = rule cs act (rest (not (eqb n 0)) (numbered cs) h) f
 
-  countable : (k : Kind) (b : Block) → first (checksOf image s (Begin k) b) ≡ Pass → Countable image (s .auth) k b
-  unfolding checksOf columnOf noValue
+  countable : (k : Kind) (b : Block) → first (checksOf image s (Begin b k) frame) ≡ passes → Countable image (s .auth) k b
+  unfolding checksOf noValue
   countable k b e =
       let p = both (memoryChecks image (s .auth) (kindColumn k) b) _ e in
       record { allowed = allowed image (s .auth) (kindColumn k) b (p .0); value = not-false _ (next _ _ _ (p .1) .0) }
+
+  -- a Read is shown its data block, or a trailer by the trailer's bits
+  shown : (b : Block) → s .stage ≡ Idle → Allowed image (s .auth) column.Read b → Accepted image s frame (shownAs b (grantOf (accessOf image b) (s .auth) column.Read b))
+  unfolding shownAs grantOf trailerGrant
+  shown b w a = go (isTrailer b) refl
+    where
+      go : (t : Bool) → isTrailer b ≡ t
+          → Accepted image s frame (shownAs b (cond t (trailerGrant column.Read (writableBy (s .auth) (trailerBits image b)) (trailerBits image b)) Whole))
+      go true e = (w, a, e, refl)
+      go false e = (w, a, e)
+
+  -- a Write is stored whole, or in a trailer's parts
+  stored : (b : Block) → s .stage ≡ WriteWaits b → Allowed image (s .auth) column.Write b → length frame ≡ 16
+      → Accepted image s frame (storedAs b (grantOf (accessOf image b) (s .auth) column.Write b))
+  unfolding storedAs grantOf trailerGrant
+  stored b w a l = go (writableBy (s .auth) (trailerBits image b)) (isTrailer b) refl
+    where
+      part : (t : Bool) → isTrailer b ≡ true → Accepted image s frame (storedAs b (cond t Whole (InParts (trailerBits image b))))
+      part true e = (w, a, l)
+      part false e = (w, a, l, e, refl)
+
+      go : (p : Parts) (t : Bool) → isTrailer b ≡ t → Accepted image s frame (storedAs b (cond t (trailerGrant column.Write p (trailerBits image b)) Whole))
+      go p true e = part (p .a && p .bits && p .b) e
+      go p false e = (w, a, l)
 
   load : (k : Kind) (b : Block) (t : Total) → s .stage ≡ ValueWaits k b → Countable image (s .auth) k b
       → totalFor k (bitsIn (contentOf image b)) (bitsIn frame) ≡ t → Accepted image s frame (loadOf t (addressIn (contentOf image b)))
@@ -132,12 +159,12 @@ module _ (image : List ℕ) (s : Session) (frame : List ℕ) where
   load k b Outside w c e = λ h. omega arith
   load k b (Fits v) w c e = record { kind = k; source = b; awaited = w; countable = c; result = e; address = refl }
 
-  move : (b : Block) (r : Register) → s .stage ≡ Idle → s .register ≡ r → Allowed image (s .auth) (columnOf Transfer) b → Accepted image s frame (moveOf r b)
-  unfolding moveOf columnOf
+  move : (b : Block) (r : Register) → s .stage ≡ Idle → s .register ≡ r → Allowed image (s .auth) column.Decrement b → Accepted image s frame (moveOf r b)
+  unfolding moveOf
   move b Empty w e a = λ h. omega arith
   move b (Full v x) w e a = (w, a, e)
 
-  admitted : (l : Letter) (b : Block) → first (authenticateChecks image l b frame) ≡ Pass → Admitted image (sectorOf b) l frame
+  admitted : (l : Letter) (b : Block) → first (authenticateChecks image l b frame) ≡ passes → Admitted image (sectorOf b) l frame
   unfolding authenticateChecks noBlock isBlocked wrongKey
   admitted l b e =
       let c2 = next _ _ _ e in
@@ -146,19 +173,19 @@ module _ (image : List ℕ) (s : Session) (frame : List ℕ) where
       record { block = b; sector = refl; has = not-false _ (c2 .0); opened = not-false _ (c5 .0); key = not-false _ (c4 .0) }
 
   command : (w : Stage) (c : Command) → s .stage ≡ w → Came frame w c → Accepted image s frame (commandedOf image s c frame)
-  unfolding commandedOf checksOf columnOf doneOf appliedOf authenticateChecks memoryChecks
+  unfolding commandedOf checksOf doneOf appliedOf authenticateChecks memoryChecks first ruled
   command w c e unknown = λ h. omega arith
-  command w c e (authenticate l b) = rule (authenticateChecks image l b frame) _ refl (λ p. (e, admitted l b p))
-  command w c e (reads b) = rule (checksOf image s Read b) _ refl (λ p. (e, allowed image (s .auth) (columnOf Read) b p))
-  command w c e (writes b) = rule (checksOf image s Write b) _ refl (λ p. (e, allowed image (s .auth) (columnOf Write) b p))
-  command w c e (stores b l) = rule (checksOf image s Store b) _ refl (λ p. (e, allowed image (s .auth) (columnOf Write) b p, l))
-  command w c e (begins k b) = rule (checksOf image s (Begin k) b) _ refl (λ p. (e, countable k b p))
-  command w c e (applies k b) =
-      rule (checksOf image s (Apply k) b) _ refl
+  command w c e (authenticate b l) = rule (authenticateChecks image l b frame) _ refl (λ p. (e, admitted l b p))
+  command w c e (reads b) = rule (checksOf image s (Read b) frame) _ refl (λ p. shown b e (allowed image (s .auth) column.Read b p))
+  command w c e (writes b) = rule (checksOf image s (Write b) frame) _ refl (λ p. (e, allowed image (s .auth) column.Write b p))
+  command w c e (stores b l) = rule (checksOf image s (Store b) frame) _ refl (λ p. stored b e (allowed image (s .auth) column.Write b p) l)
+  command w c e (begins b k) = rule (checksOf image s (Begin b k) frame) _ refl (λ p. (e, countable k b p))
+  command w c e (applies b k) =
+      rule (checksOf image s (Apply b k) frame) _ refl
       (λ p. load k b (totalFor k (bitsIn (contentOf image b)) (bitsIn frame)) e (countable k b p) refl)
   command w c e (transfers b) =
-      rule (checksOf image s Transfer b) _ refl
-      (λ p. move b (s .register) e refl (allowed image (s .auth) (columnOf Transfer) b (both (memoryChecks image (s .auth) (columnOf Transfer) b) _ p .0)))
+      rule (checksOf image s (Transfer b) frame) _ refl
+      (λ p. move b (s .register) e refl (allowed image (s .auth) column.Decrement b (both (memoryChecks image (s .auth) column.Decrement b) (check 9 (isEmpty (s .register)) ∷ []) p .0)))
   command w c e halts = e
 
   -- every act of the judgement is accepted, or a refusal whose number is not 0

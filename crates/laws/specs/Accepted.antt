@@ -9,7 +9,8 @@ use Rattle.layout.specs.Layout.{hasBlock, sectorOf, isTrailer}
 use Rattle.layout.specs.declared.Block.{Block}
 use Rattle.layout.specs.declared.Sector.{Sector}
 use Rattle.memory.specs.Memory.{contentOf}
-use Rattle.access.specs.Bits.{wellFormed}
+use Rattle.layout.specs.declared.Group.the-variants.{Trailer}
+use Rattle.access.specs.Bits.{wellFormed, groupBits}
 use Rattle.access.specs.declared.rights.Letter.{Letter}
 use Rattle.access.specs.declared.rights.Operation.{Operation}
 use Rattle.access.specs.declared.rights.Operation.the-variants as column
@@ -18,14 +19,13 @@ use Rattle.value.specs.declared.sum.Total.the-variants.{Fits}
 use Rattle.session.specs.Session.{inSector}
 use Rattle.session.specs.declared.Auth.{Auth}
 use Rattle.session.specs.declared.Kind.{Kind}
-use Rattle.session.specs.declared.Stage.{Stage}
-use Rattle.session.specs.declared.Stage.the-variants.{Idle, WriteWaits, ValueWaits}
+use Rattle.session.specs.declared.Stage.the-variants as stage
 use Rattle.session.specs.declared.Register.the-variants.{Full}
 use Rattle.session.specs.declared.Session.{Session}
 use Rattle.judge.specs.Checks.{guardOf, accessOf, isKey, isForbidden, noRight, kindColumn}
 use Rattle.judge.specs.Judge.{totalFor}
 use Rattle.judge.specs.declared.Act.{Act}
-use Rattle.judge.specs.declared.Act.the-variants.{Refused, Authenticated, Shown, Waits, Stored, Loaded, Moved, Halted}
+use Rattle.judge.specs.declared.Act.the-variants.{Refused, Authenticated, Shown, TrailerShown, WriteWaits, ValueWaits, Stored, TrailerStored, Loaded, Moved, Halted}
 
 -- a memory command on a block passed 2, 3, 5, 6 and 7
 pub record Allowed (image : List ℕ) (auth : Auth) (o : Operation) (b : Block) : Type 0 where
@@ -48,17 +48,15 @@ pub record Admitted (image : List ℕ) (t : Sector) (l : Letter) (frame : List �
   pub opened : wellFormed (accessOf image block) ≡ true
   pub key : isKey (guardOf image block) l frame ≡ true
 
--- the checks of a first frame passed, and this stage is what it left
-abbrev pub Awaited : List ℕ → Auth → Stage → Type 0
-Awaited image auth Idle = ⊥
-Awaited image auth (WriteWaits b) = Allowed image auth column.Write b
-Awaited image auth (ValueWaits k b) = Countable image auth k b
+-- the bits of the trailer of a block's sector
+abbrev pub trailerBits : List ℕ → Block → ℕ
+trailerBits image b = groupBits (accessOf image b) Trailer
 
 -- the second frame of a value operation passed its checks and 10, and this is what it loaded
 pub record Load (image : List ℕ) (s : Session) (frame : List ℕ) (v a : ℕ) : Type 0 where
   pub kind : Kind
   pub source : Block
-  pub awaited : s .stage ≡ ValueWaits kind source
+  pub awaited : s .stage ≡ stage.ValueWaits kind source
   pub countable : Countable image (s .auth) kind source
   pub result : totalFor kind (bitsIn (contentOf image source)) (bitsIn frame) ≡ Fits v
   pub address : a ≡ addressIn (contentOf image source)
@@ -66,10 +64,14 @@ pub record Load (image : List ℕ) (s : Session) (frame : List ℕ) (v a : ℕ) 
 -- what stands behind each act: which frame was awaited, and what it has passed; a refusal has a number other than 0
 abbrev pub Accepted : List ℕ → Session → List ℕ → Act → Type 0
 Accepted image s frame (Refused n) = n ≡ 0 → ⊥
-Accepted image s frame (Authenticated t l) = (s .stage ≡ Idle) × Admitted image t l frame
-Accepted image s frame (Shown b) = (s .stage ≡ Idle) × Allowed image (s .auth) column.Read b
-Accepted image s frame (Waits w) = (s .stage ≡ Idle) × Awaited image (s .auth) w
-Accepted image s frame (Stored b) = (s .stage ≡ WriteWaits b) × Allowed image (s .auth) column.Write b × (length frame ≡ 16)
+Accepted image s frame (Authenticated t l) = (s .stage ≡ stage.Idle) × Admitted image t l frame
+Accepted image s frame (Shown b) = (s .stage ≡ stage.Idle) × Allowed image (s .auth) column.Read b × (isTrailer b ≡ false)
+Accepted image s frame (TrailerShown b m) = (s .stage ≡ stage.Idle) × Allowed image (s .auth) column.Read b × (isTrailer b ≡ true) × (m ≡ trailerBits image b)
+Accepted image s frame (WriteWaits b) = (s .stage ≡ stage.Idle) × Allowed image (s .auth) column.Write b
+Accepted image s frame (ValueWaits b k) = (s .stage ≡ stage.Idle) × Countable image (s .auth) k b
+Accepted image s frame (Stored b) = (s .stage ≡ stage.WriteWaits b) × Allowed image (s .auth) column.Write b × (length frame ≡ 16)
+Accepted image s frame (TrailerStored b m) =
+    (s .stage ≡ stage.WriteWaits b) × Allowed image (s .auth) column.Write b × (length frame ≡ 16) × (isTrailer b ≡ true) × (m ≡ trailerBits image b)
 Accepted image s frame (Loaded v a) = Load image s frame v a
-Accepted image s frame (Moved b v a) = (s .stage ≡ Idle) × Allowed image (s .auth) column.Decrement b × (s .register ≡ Full v a)
-Accepted image s frame Halted = s .stage ≡ Idle
+Accepted image s frame (Moved b v a) = (s .stage ≡ stage.Idle) × Allowed image (s .auth) column.Decrement b × (s .register ≡ Full v a)
+Accepted image s frame Halted = s .stage ≡ stage.Idle

@@ -1,7 +1,9 @@
 // Where blocks stand: the image sizes, sectors, trailers and access groups.
 // A block address and a sector number are different types, and nothing but this crate makes one from the other.
 ghost use mathlib.Core.Path.{_≡_};
+ghost use mathlib.Core.Bool.{_||_};
 ghost use Prim.Native.Nat.{_<_};
+ghost use lib.Dec.{eqb};
 ghost use Rattle.layout.specs.Layout.{sectorsOf, blocksOf, hasSector, hasBlock, sectorOf, trailerOf, isTrailer, groupAt, groupOf, groupNumber};
 
 // A block address.
@@ -31,15 +33,19 @@ pub fn sectors_of(bytes: usize) -> usize
     0
 }
 
+// Is this the size of a card's image?
+fn is_card(bytes: usize) -> bool
+    ensures { λ r. ⌜ r ≡ eqb bytes 1024 || eqb bytes 4096 ⌝ }
+{
+    (bytes == 1024) | (bytes == 4096)
+}
+
 // The blocks of an image of so many bytes.
 pub fn blocks_of(bytes: usize) -> usize
     ensures { λ r. ⌜ r ≡ blocksOf bytes ⌝ }
 {
-    if bytes == 1024 {
-        return 64;
-    }
-    if bytes == 4096 {
-        return 256;
+    if is_card(bytes) {
+        return bytes / 16;
     }
     0
 }

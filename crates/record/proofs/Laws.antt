@@ -14,7 +14,7 @@ use Rattle.session.specs.declared.Stage.the-variants.{Idle, WriteWaits, ValueWa
 use Rattle.session.specs.declared.Register.{Register}
 use Rattle.session.specs.declared.Register.the-variants.{Empty, Full}
 use Rattle.session.specs.declared.Session.{Session}
-use Rattle.record.specs.Record.{whoCode, sectorByte, stageCode, blockByte, fullCode, addressByte, valueBits, recordOf, authBy, stageBy, registerBy, valueIn, namedBy, isRecord, strayOf, sessionFrom}
+use Rattle.record.specs.Record.{whoCode, sectorByte, stageCode, blockByte, fullCode, addressByte, valueBits, recordOf, authBy, stageBy, registerBy, valueIn, namedBy, isRecord, foundIn, strayOf, sessionFrom}
 
 auth-back : (auth : Auth) → authBy (whoCode auth) (sectorByte auth) ≡ auth
 unfolding authBy
@@ -52,16 +52,16 @@ module _ (s : Session) (fits : valueBits (s .register) < 4294967296) where
 
   -- every session written reads back
   pub reads-back : sessionFrom (recordOf s) ≡ s
-  unfolding sessionFrom
+  unfolding sessionFrom foundIn
   reads-back = rw (written-record) named-back
 
 module _ (bytes : List ℕ) where
   -- what is read is written as the same bytes
   pub writes-back : isRecord bytes ≡ true → recordOf (sessionFrom bytes) ≡ bytes
-  unfolding sessionFrom isRecord
+  unfolding sessionFrom foundIn isRecord recordOf
   writes-back e = rw e (sym (same-eq bytes (recordOf (namedBy bytes)) e))
 
   -- and for bytes that are no record there is one session
   pub no-record : isRecord bytes ≡ false → sessionFrom bytes ≡ strayOf
-  unfolding sessionFrom
+  unfolding sessionFrom foundIn
   no-record e = rw e

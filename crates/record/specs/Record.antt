@@ -1,5 +1,5 @@
 -- The session as twelve bytes: who and sector, stage and block, full and address byte, two zeros, the value.
-use mathlib.Core.Bool.{Bool, cond}
+use mathlib.Core.Bool.{Bool, _&&_, cond}
 use mathlib.Core.List.{List, _∷_}
 use Prim.Native.Nat.{ℕ, _+_, _*_}
 use lib.Dec.{eqb}
@@ -16,6 +16,8 @@ use Rattle.session.specs.declared.Stage.the-variants.{Idle, WriteWaits, ValueWa
 use Rattle.session.specs.declared.Register.{Register}
 use Rattle.session.specs.declared.Register.the-variants.{Empty, Full}
 use Rattle.session.specs.declared.Session.{Session}
+use Rattle.record.specs.declared.Found.{Found}
+use Rattle.record.specs.declared.Found.the-variants as found
 
 -- who is authenticated: 0 nobody, 1 key A, 2 key B; and for which sector
 abbrev pub letterCode : Letter → ℕ
@@ -86,6 +88,18 @@ stageBy code block =
 unfoldable pub registerBy : ℕ → ℕ → ℕ → Register
 registerBy full address value = cond (eqb full 1) (Full value address) Empty
 
+-- codes and bytes are those of the part that they name
+unfoldable pub isAuth : ℕ → ℕ → Bool
+isAuth who sector = eqb who (whoCode (authBy who sector)) && eqb sector (sectorByte (authBy who sector))
+
+unfoldable pub isStage : ℕ → ℕ → Bool
+isStage code block = eqb code (stageCode (stageBy code block)) && eqb block (blockByte (stageBy code block))
+
+unfoldable pub isRegister : ℕ → ℕ → ℕ → Bool
+isRegister full address value =
+    eqb full (fullCode (registerBy full address value)) && eqb address (addressByte (registerBy full address value))
+    && eqb value (valueBits (registerBy full address value))
+
 -- the value in bytes 8 to 11, low byte first
 abbrev pub valueIn : List ℕ → ℕ
 valueIn bytes = getD bytes 8 0 + 256 * getD bytes 9 0 + 65536 * getD bytes 10 0 + 16777216 * getD bytes 11 0
@@ -103,10 +117,19 @@ namedBy bytes =
 unfoldable pub isRecord : List ℕ → Bool
 isRecord bytes = same bytes (recordOf (namedBy bytes))
 
+-- what twelve bytes hold: the session whose record they are, or nothing
+unfoldable pub foundIn : List ℕ → Found
+foundIn bytes = cond (isRecord bytes) (found.Session (namedBy bytes)) found.Nothing
+
 -- what stands for bytes that are no record: a session that 12 refuses, with every image
 abbrev pub strayOf : Session
 strayOf = record { auth = Nobody; stage = Idle; register = Full 0 0 }
 
+-- the session found, or the one that stands for none
+abbrev pub sessionIn : Found → Session
+sessionIn (found.Session s) = s
+sessionIn found.Nothing = strayOf
+
 -- the session of twelve bytes
 unfoldable pub sessionFrom : List ℕ → Session
-sessionFrom bytes = cond (isRecord bytes) (namedBy bytes) strayOf
+sessionFrom bytes = sessionIn (foundIn bytes)

@@ -1,22 +1,18 @@
 // The session as a record of twelve bytes, there and back, for callers that cannot hold an enum.
 ghost use mathlib.Core.Path.{_≡_};
-ghost use Rattle.value.specs.Block.{same};
-ghost use Rattle.record.specs.Record.{recordOf, namedBy, strayOf, sessionFrom};
+ghost use Rattle.record.specs.Record.{recordOf, namedBy, foundIn};
 
 mod codes;
+mod judged;
 mod named;
 
-use session::Auth;
-use session::Register;
 use session::Session;
-use session::Stage;
 
-// Nobody is authenticated and the register is full: no card leaves a session so, and 12 refuses it.
-const STRAY: Session = Session {
-    auth: Auth::Nobody,
-    stage: Stage::Idle,
-    register: Register::Full(0, 0),
-};
+// What twelve bytes hold: a session, or they are no session's record.
+pub enum Found {
+    Session(Session),
+    Nothing,
+}
 
 // The record of a session.
 pub fn encode(s: Session) -> [u8; 12]
@@ -67,30 +63,13 @@ fn named_by(bytes: [u8; 12]) -> Session
     }
 }
 
-fn is_same(x: [u8; 12], y: [u8; 12]) -> bool
-    ensures { λ r. ⌜ r ≡ same x y ⌝ }
+// The session of a record; any other twelve bytes hold none.
+pub fn decode(bytes: [u8; 12]) -> Found
+    ensures { λ r. ⌜ r ≡ foundIn bytes ⌝ }
 {
-    (x[0] == y[0])
-        & (x[1] == y[1])
-        & (x[2] == y[2])
-        & (x[3] == y[3])
-        & (x[4] == y[4])
-        & (x[5] == y[5])
-        & (x[6] == y[6])
-        & (x[7] == y[7])
-        & (x[8] == y[8])
-        & (x[9] == y[9])
-        & (x[10] == y[10])
-        & (x[11] == y[11])
-}
-
-// The session of a record; for any other twelve bytes one that is refused.
-pub fn decode(bytes: [u8; 12]) -> Session
-    ensures { λ r. ⌜ r ≡ sessionFrom bytes ⌝ }
-{
-    let named = named_by(bytes);
-    if is_same(bytes, encode(named)) {
-        return named;
+    if judged::is_record(bytes) {
+        Found::Session(named_by(bytes))
+    } else {
+        Found::Nothing
     }
-    STRAY
 }

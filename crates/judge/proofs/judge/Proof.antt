@@ -1,8 +1,9 @@
--- 11 and 12, then what the command does.
+-- 11 and 12, then what the command comes to.
 use mathlib.Core.Path.{_∙_}
 use Rattle.judge.specs.First.{first, ruled}
-use Rattle.judge.specs.Checks.{incoherent, frameChecks}
-use Rattle.judge.specs.Judge.{judgeOf, commandedOf}
+use Rattle.judge.specs.Checks.{incoherent, checksOf, frameChecks}
+use Rattle.judge.specs.Judge.{judgeOf, commandedOf, doneOf}
+use Rattle.judge.proofs.Lists.{is-memory}
 use borrow.Author.Needs.{needs}
 use Rattle.judge.proofs.judge.Statement.{statement}
 use Rattle.judge.proofs.judge.Tie as tie
@@ -10,16 +11,8 @@ use Rattle.judge.proofs.judge.Tie as tie
 is-no-card-requires : tie.Need-is-no-card-requires
 is-no-card-requires c κs = search needs
 
-returns : tie.Need-returns
-unfolding judgeOf frameChecks first ruled
-returns c = rw (← (c .before .is-no-card .ensures), c .if1 .taken)
-
 is-coherent-requires : tie.Need-is-coherent-requires
 is-coherent-requires c κs = search needs
-
-returns-2 : tie.Need-returns-2
-unfolding judgeOf frameChecks first ruled incoherent
-returns-2 c = rw (← (c .before .before .before .is-no-card .ensures), c .before .before .if1 .left, ← (c .before .is-coherent .ensures), c .if2 .taken)
 
 command-of-requires : tie.Need-command-of-requires
 command-of-requires c κs = search needs
@@ -33,46 +26,50 @@ enum-known-c c = search needs
 authenticate-requires : tie.Need-authenticate-requires
 authenticate-requires c κs = search needs
 
-enum-known-c-2 : tie.Need-enum-known-c-2
-enum-known-c-2 c = search needs
-
-perform-requires : tie.Need-perform-requires
-perform-requires c κs = search needs
-
 enum-told-2 : tie.Need-enum-told-2
 enum-told-2 c = search needs
 
+perform-requires : tie.Need-perform-requires
+perform-requires c κs = is-memory _ (c .match .keys4)
+
+returns : tie.Need-returns
+unfolding judgeOf frameChecks first ruled
+returns c = rw (← (c .before .is-no-card .ensures), c .if1 .taken)
+
+returns-2 : tie.Need-returns-2
+unfolding judgeOf frameChecks first ruled incoherent commandedOf checksOf doneOf
+returns-2 c = rw (← (c .before .before .before .before .before .before .is-no-card .ensures), c .before .before .before .before .before .if1 .left, ← (c .before .before .before .before .is-coherent .ensures), c .before .before .before .if2 .taken, ← (c .before .before .command-of .ensures), c .enum-told .given .1)
+
 returns-3 : tie.Need-returns-3
-unfolding judgeOf frameChecks first ruled incoherent commandedOf
-returns-3 c = rw (← (c .before .before .before .before .before .before .is-no-card .ensures), c .before .before .before .before .before .if1 .left, ← (c .before .before .before .before .is-coherent .ensures), c .before .before .before .if2 .left, ← (c .before .before .command-of .ensures), c .enum-told .given .1)
+unfolding judgeOf frameChecks first ruled incoherent commandedOf checksOf doneOf
+returns-3 c = c .authenticate .ensures ∙ rw (← (c .before .before .before .before .before .before .before .before .is-no-card .ensures), c .before .before .before .before .before .before .before .if1 .left, ← (c .before .before .before .before .before .before .is-coherent .ensures), c .before .before .before .before .before .if2 .taken, ← (c .before .before .before .before .command-of .ensures), c .before .before .c .given .1)
 
 returns-4 : tie.Need-returns-4
-unfolding judgeOf frameChecks first ruled incoherent commandedOf
-returns-4 c = c .authenticate .ensures ∙ rw (← (c .before .before .before .before .before .before .before .before .is-no-card .ensures), c .before .before .before .before .before .before .before .if1 .left, ← (c .before .before .before .before .before .before .is-coherent .ensures), c .before .before .before .before .before .if2 .left, ← (c .before .before .before .before .command-of .ensures), c .before .before .c .given .1)
+unfolding judgeOf frameChecks first ruled incoherent commandedOf checksOf doneOf
+returns-4 c = rw (← (c .before .before .before .before .before .before .is-no-card .ensures), c .before .before .before .before .before .if1 .left, ← (c .before .before .before .before .is-coherent .ensures), c .before .before .before .if2 .taken, ← (c .before .before .command-of .ensures), c .enum-told2 .given .1)
 
 returns-5 : tie.Need-returns-5
-unfolding judgeOf frameChecks first ruled incoherent commandedOf
-returns-5 c = c .perform .ensures ∙ rw (← (c .before .before .before .before .before .before .before .before .is-no-card .ensures), c .before .before .before .before .before .before .before .if1 .left, ← (c .before .before .before .before .before .before .is-coherent .ensures), c .before .before .before .before .before .if2 .left, ← (c .before .before .before .before .command-of .ensures), c .before .before .c2 .given .1)
+unfolding judgeOf frameChecks first ruled incoherent
+returns-5 c = c .perform .ensures ∙ rw (← (c .before .before .before .before .before .before .is-no-card .ensures), c .before .before .before .before .before .if1 .left, ← (c .before .before .before .before .is-coherent .ensures), c .before .before .before .if2 .taken, ← (c .before .before .command-of .ensures))
 
 returns-6 : tie.Need-returns-6
-unfolding judgeOf frameChecks first ruled incoherent commandedOf
-returns-6 c = rw (← (c .before .before .before .before .before .before .is-no-card .ensures), c .before .before .before .before .before .if1 .left, ← (c .before .before .before .before .is-coherent .ensures), c .before .before .before .if2 .left, ← (c .before .before .command-of .ensures), c .enum-told2 .given .1)
+unfolding judgeOf frameChecks first ruled incoherent
+returns-6 c = rw (← (c .before .before .before .is-no-card .ensures), c .before .before .if1 .left, ← (c .before .is-coherent .ensures), c .if2 .left)
 
 pub judge-spec : {M : Type 1} → statement M
 judge-spec =
     tie.close
     (tie.spec
     is-no-card-requires
-    returns
     is-coherent-requires
-    returns-2
     command-of-requires
     enum-told
     enum-known-c
     authenticate-requires
-    enum-known-c-2
-    perform-requires
     enum-told-2
+    perform-requires
+    returns
+    returns-2
     returns-3
     returns-4
     returns-5

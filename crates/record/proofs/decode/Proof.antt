@@ -1,26 +1,22 @@
--- What the bytes name, where it is written as they are.
-use Rattle.record.specs.Record.{isRecord, sessionFrom}
+-- What the bytes name, where they are a record.
+use Rattle.record.specs.Record.{foundIn}
 use borrow.Author.Needs.{needs}
 use Rattle.record.proofs.decode.Statement.{statement}
 use Rattle.record.proofs.decode.Tie as tie
 
+is-record-requires : tie.Need-is-record-requires
+is-record-requires c κs = search needs
+
 named-by-requires : tie.Need-named-by-requires
 named-by-requires c κs = search needs
 
-encode-requires : tie.Need-encode-requires
-encode-requires c κs = search needs
-
-is-same-requires : tie.Need-is-same-requires
-is-same-requires c κs = search needs
-
 returns : tie.Need-returns
-unfolding sessionFrom isRecord
-returns c = rw (← (c .before .before .before .named-by .ensures), ← (c .before .before .encode .ensures), ← (c .before .is-same .ensures), c .if1 .taken)
+unfolding foundIn
+returns c = rw (← (c .before .before .is-record .ensures), c .before .if1 .taken, c .named-by .ensures)
 
 returns-2 : tie.Need-returns-2
-unfolding sessionFrom isRecord
-returns-2 c = rw (← (c .before .before .before .named-by .ensures), ← (c .before .before .encode .ensures), ← (c .before .is-same .ensures), c .if1 .left)
+unfolding foundIn
+returns-2 c = rw (← (c .before .is-record .ensures), c .if1 .left)
 
 pub decode-spec : {M : Type 1} → statement M
-decode-spec =
-    tie.close (tie.spec named-by-requires encode-requires is-same-requires returns returns-2)
+decode-spec = tie.close (tie.spec is-record-requires named-by-requires returns returns-2)

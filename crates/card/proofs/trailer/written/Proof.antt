@@ -1,11 +1,8 @@
--- The parts by the trailer's own bits.
+-- The parts by the bits of the trailer.
 use mathlib.Core.Path.{_∙_}
 use borrow.Author.Needs.{needs}
 use Rattle.card.proofs.trailer.written.Statement.{statement}
 use Rattle.card.proofs.trailer.written.Tie as tie
-
-own-bits-requires : tie.Need-own-bits-requires
-own-bits-requires c κs = search needs
 
 writable-by-requires : tie.Need-writable-by-requires
 writable-by-requires c κs = search needs
@@ -14,7 +11,7 @@ mixed-requires : tie.Need-mixed-requires
 mixed-requires c κs = search needs
 
 returns : tie.Need-returns
-returns c = c .mixed .ensures ∙ rw (c .before .writable-by .ensures, c .before .before .own-bits .ensures)
+returns c = c .mixed .ensures ∙ rw (c .before .writable-by .ensures)
 
 pub written-spec : {M : Type 1} → statement M
-written-spec = tie.close (tie.spec own-bits-requires writable-by-requires mixed-requires returns)
+written-spec = tie.close (tie.spec writable-by-requires mixed-requires returns)

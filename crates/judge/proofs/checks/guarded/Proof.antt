@@ -1,7 +1,11 @@
--- Checks 5, 6 and 7 in their order.
+-- Checks 5, 6 and 7 in their order, by the kind of block.
+use mathlib.Core.Path.{_∙_, ap}
 use Rattle.access.proofs.BitLaws.{closed, opened}
+use Rattle.access.specs.Bits.{groupBits}
 use Rattle.judge.specs.First.{first}
-use Rattle.judge.specs.Checks.{isBlocked, noRight}
+use Rattle.judge.specs.Checks.{isBlocked}
+use Rattle.judge.specs.Grant.{granted}
+use Rattle.judge.proofs.Guard.{trailer-way, data-way}
 use borrow.Author.Needs.{needs}
 use Rattle.judge.proofs.checks.guarded.Statement.{statement}
 use Rattle.judge.proofs.checks.guarded.Tie as tie
@@ -19,7 +23,7 @@ enum-told : tie.Need-enum-told
 enum-told c = search needs
 
 returns : tie.Need-returns
-unfolding first isBlocked
+unfolding first isBlocked granted
 returns c = rw (closed _ _ _ (c .before .before .bits-of .ensures) (c .enum-told .given .1))
 
 bits-of-requires-2 : tie.Need-bits-of-requires-2
@@ -32,29 +36,30 @@ enum-told-2 : tie.Need-enum-told-2
 enum-told-2 c = search needs
 
 returns-2 : tie.Need-returns-2
-unfolding first isBlocked
+unfolding first isBlocked granted
 returns-2 c = rw (closed _ _ _ (c .before .before .bits-of2 .ensures) (c .enum-told2 .given .1))
 
-is-trailer-requires : tie.Need-is-trailer-requires
-is-trailer-requires c κs = search needs
+enum-told-3 : tie.Need-enum-told-3
+enum-told-3 c = search needs
 
-is-forbidden-requires : tie.Need-is-forbidden-requires
-is-forbidden-requires c κs = search needs
+trailer-rule-requires : tie.Need-trailer-rule-requires
+trailer-rule-requires c κs = search needs
+
+data-rule-requires : tie.Need-data-rule-requires
+data-rule-requires c κs = search needs
 
 returns-3 : tie.Need-returns-3
-unfolding first isBlocked
-returns-3 c = rw (opened _ _ _ (c .before .before .before .before .before .before .before .before .before .before .bits-of .ensures) _ (c .before .before .before .before .before .before .before .before .n .given .1) .0, ← (c .before .before .is-trailer .ensures), ← (c .before .is-forbidden .ensures), c .if1 .taken)
-
-has-right-requires : tie.Need-has-right-requires
-has-right-requires c κs = search needs
+returns-3 c =
+    let n = opened _ _ _ (c .before .before .before .before .before .before .before .before .before .before .bits-of .ensures) _ (c .before .before .before .before .before .before .before .before .n .given .1) in
+    let g = c .before .before .before .before .before .before .before .before .before .before .before .group-of .ensures in
+    c .trailer-rule .ensures ∙ trailer-way _ _ _ _ (search needs) _ (n .0) (n .1 ∙ ap (groupBits _) g) _ g (c .before .enum-told3 .given .1)
 
 returns-4 : tie.Need-returns-4
-unfolding first isBlocked noRight
-returns-4 c = rw (opened _ _ _ (c .before .before .before .before .before .before .before .before .before .before .before .before .bits-of .ensures) _ (c .before .before .before .before .before .before .before .before .before .before .n .given .1) .0, ← (c .before .before .before .before .is-trailer .ensures), ← (c .before .before .before .is-forbidden .ensures), c .before .before .if1 .left, ← (c .before .before .before .before .before .before .before .before .before .before .before .before .before .group-of .ensures), ← (opened _ _ _ (c .before .before .before .before .before .before .before .before .before .before .before .before .bits-of .ensures) _ (c .before .before .before .before .before .before .before .before .before .before .n .given .1) .1), ← (opened _ _ _ (c .before .before .before .before .before .before .before .before .bits-of2 .ensures) _ (c .before .before .before .before .before .before .m .given .1) .1), ← (c .before .has-right .ensures), c .if2 .taken)
-
-returns-5 : tie.Need-returns-5
-unfolding first isBlocked noRight
-returns-5 c = rw (opened _ _ _ (c .before .before .before .before .before .before .before .before .before .before .before .before .bits-of .ensures) _ (c .before .before .before .before .before .before .before .before .before .before .n .given .1) .0, ← (c .before .before .before .before .is-trailer .ensures), ← (c .before .before .before .is-forbidden .ensures), c .before .before .if1 .left, ← (c .before .before .before .before .before .before .before .before .before .before .before .before .before .group-of .ensures), ← (opened _ _ _ (c .before .before .before .before .before .before .before .before .before .before .before .before .bits-of .ensures) _ (c .before .before .before .before .before .before .before .before .before .before .n .given .1) .1), ← (opened _ _ _ (c .before .before .before .before .before .before .before .before .bits-of2 .ensures) _ (c .before .before .before .before .before .before .m .given .1) .1), ← (c .before .has-right .ensures), c .if2 .left)
+returns-4 c =
+    let n = opened _ _ _ (c .before .before .before .before .before .before .before .before .before .bits-of .ensures) _ (c .before .before .before .before .before .before .before .n .given .1) in
+    let m = opened _ _ _ (c .before .before .before .before .before .bits-of2 .ensures) _ (c .before .before .before .m .given .1) in
+    let g = c .before .before .before .before .before .before .before .before .before .before .group-of .ensures in
+    c .data-rule .ensures ∙ data-way _ _ _ _ (search needs) _ (n .0) (n .1 ∙ ap (groupBits _) g) _ _ g (c .before .match3 .keys2) (m .1)
 
 pub guarded-spec : {M : Type 1} → statement M
 guarded-spec =
@@ -69,9 +74,8 @@ guarded-spec =
     enum-known-m
     enum-told-2
     returns-2
-    is-trailer-requires
-    is-forbidden-requires
+    enum-told-3
+    trailer-rule-requires
+    data-rule-requires
     returns-3
-    has-right-requires
-    returns-4
-    returns-5)
+    returns-4)
