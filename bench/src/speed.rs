@@ -81,12 +81,20 @@ pub fn works() -> Vec<Work> {
 /// The shortest nanoseconds of the empty card, the library and the Rust card.
 type Times = [f64; 3];
 
-/// One line of the table, times less what the loop costs; gives whether the library takes too long.
-fn print_line(work: &Work, times: Times, (library_count, rust_count): (f64, f64)) -> bool {
+/// A ratio, where the times are long enough to have one.
+fn ratio(library: f64, rust: f64) -> String {
+    if rust < NOISE {
+        return "-".to_string();
+    }
+    format!("{:.2}", library / rust)
+}
+
+/// One line of the table, times less what the loop costs; gives whether the library takes too long, and too many instructions.
+fn print_line(work: &Work, times: Times, (library_count, rust_count): (f64, f64)) -> (bool, bool) {
     let (library, rust) = (times[1] - times[0], times[2] - times[0]);
-    let (by_time, by_count) = (library / rust, library_count / rust_count);
-    println!("{:36} {library:8.1} {rust:8.1} {by_time:6.2}   {library_count:8.0} {rust_count:8.0} {by_count:6.2}", work.name);
-    library > GOAL * rust + NOISE
+    let (by_time, by_count) = (ratio(library, rust), ratio(library_count, rust_count));
+    println!("{:36} {library:8.1} {rust:8.1} {by_time:>6}   {library_count:8.0} {rust_count:8.0} {by_count:>6}", work.name);
+    (library > GOAL * rust + NOISE, library_count > GOAL * rust_count)
 }
 
 pub fn print_table() {
@@ -99,6 +107,7 @@ pub fn print_table() {
         works.iter_mut().zip(&mut times).for_each(|(work, least)| work.time_once(least));
     }
     let lines = works.iter().zip(times).zip(counted);
-    let dear = lines.map(|((work, times), counted)| print_line(work, times, counted)).filter(|dear| *dear).count();
-    println!("{dear} of {} lines are dearer than {GOAL} times the Rust card, by time", works.len());
+    let dear: Vec<(bool, bool)> = lines.map(|((work, times), counted)| print_line(work, times, counted)).collect();
+    let (by_time, by_count) = (dear.iter().filter(|line| line.0).count(), dear.iter().filter(|line| line.1).count());
+    println!("of {} lines, {by_time} are dearer than {GOAL} times the Rust card by time, {by_count} by instructions", works.len());
 }

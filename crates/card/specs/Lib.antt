@@ -1,3 +1,4 @@
 pub mod Trailer
 pub mod Effects
 pub mod Step
+pub mod Code

@@ -1,8 +1,8 @@
 -- A trailer in its parts: key A in bytes 0 to 5, the access bits and the user byte in 6 to 9, key B in 10 to 15.
 use mathlib.Core.Bool.{Bool, cond}
 use mathlib.Core.List.{List, _++_}
-use Prim.Native.Nat.{ℕ, zero, suc, _+_}
-use lib.ListN.{take, drop, replicate, set, getD}
+use Prim.Native.Nat.{ℕ}
+use lib.ListN.{take, drop, replicate}
 use Rattle.access.specs.declared.rights.Parts.{Parts}
 
 abbrev pub zeros : List ℕ
@@ -19,8 +19,3 @@ shownTrailer readable trailer = joinOf zeros trailer (cond readable trailer zero
 -- as it is written: those parts are new, and the rest is kept
 unfoldable pub mixedOf : Parts → List ℕ → List ℕ → List ℕ
 mixedOf p old new = joinOf (cond (p .a) new old) (cond (p .bits) new old) (cond (p .b) new old)
-
--- for the code, which goes byte by byte: the bytes x, with n of y's from a place on
-unfoldable pub patchedOf : List ℕ → List ℕ → ℕ → ℕ → List ℕ
-patchedOf x y from zero = x
-patchedOf x y from (suc n) = set (patchedOf x y from n) (from + n) (getD y (from + n) 0)

@@ -109,11 +109,7 @@ pub(crate) fn enact(image: &mut [u8], s: Session, act: Act, frame: &[u8]) -> Ans
         Act::Shown(b) => accepted(Sign::Data, memory::content(&image[..], b), s),
         Act::TrailerShown(b, m) => {
             let trailer = memory::content(&image[..], b);
-            accepted(
-                Sign::Data,
-                trailer::shown(trailer, access::is_readable(m)),
-                s,
-            )
+            accepted(Sign::Data, trailer::shown(trailer, m), s)
         }
         Act::WriteWaits(b) => ack(awaiting(s, Stage::WriteWaits(b))),
         Act::ValueWaits(b, k) => ack(awaiting(s, Stage::ValueWaits(k, b))),

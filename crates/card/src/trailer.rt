@@ -2,8 +2,10 @@
 ghost use mathlib.Core.Path.{_≡_};
 ghost use mathlib.Core.Bool.{cond};
 ghost use Prim.Native.Nat.{_-_, _≤_};
+ghost use Rattle.access.specs.Rights.{readableOf};
 ghost use Rattle.judge.specs.Grant.{writableBy};
-ghost use Rattle.card.specs.Trailer.{joinOf, shownTrailer, mixedOf, patchedOf};
+ghost use Rattle.card.specs.Trailer.{joinOf, shownTrailer, mixedOf};
+ghost use Rattle.card.specs.Code.{patchedOf, sightOf, seenOf};
 use access::Parts;
 use session::Auth;
 
@@ -28,16 +30,38 @@ fn join(p: [u8; 16], q: [u8; 16], r: [u8; 16]) -> [u8; 16]
     patched(patched(r, p, 0, 6), q, 6, 10)
 }
 
-// Without key A, and without key B unless it can be read.
-pub(crate) fn shown(trailer: [u8; 16], readable: bool) -> [u8; 16]
-    ensures { λ r. ⌜ r ≡ shownTrailer readable trailer ⌝ }
+// How well each byte is hidden: bytes 6 to 9 least, key B better, key A best.
+const HIDING: [u8; 16] = [3, 3, 3, 3, 3, 3, 1, 1, 1, 1, 2, 2, 2, 2, 2, 2];
+
+// How far a Read sees, by the trailer's bits: past the hiding of key B where that key can be read.
+const SIGHT: [u8; 8] = [3, 3, 3, 2, 2, 2, 2, 2];
+
+fn sight_of(m: u8) -> u8
+    ensures { λ r. ⌜ r ≡ sightOf m ⌝ }
 {
-    let none = [0u8; 16];
-    if readable {
-        patched(trailer, none, 0, 6)
-    } else {
-        patched(patched(trailer, none, 0, 6), none, 10, 16)
+    let k = (m % 8) as usize;
+    SIGHT[k]
+}
+
+fn seen(hiding: u8, sight: u8, byte: u8) -> u8
+    ensures { λ r. ⌜ r ≡ seenOf hiding sight byte ⌝ }
+{
+    if hiding < sight { byte } else { 0 }
+}
+
+// A trailer with the bits m, as a Read shows it: without key A, and without key B unless it can be read.
+// Every byte goes by the same comparison, so that they are blanked sixteen at once; a part blanked in a copy costs a wait when the copy is next read.
+pub(crate) fn shown(trailer: [u8; 16], m: u8) -> [u8; 16]
+    ensures { λ r. ⌜ r ≡ shownTrailer (readableOf m) trailer ⌝ }
+{
+    let sight = sight_of(m);
+    let mut bytes = trailer;
+    let mut i = 0;
+    while i < 16 {
+        bytes[i] = seen(HIDING[i], sight, trailer[i]);
+        i += 1;
     }
+    bytes
 }
 
 fn writable_by(auth: Auth, m: u8) -> Parts

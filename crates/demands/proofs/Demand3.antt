@@ -16,7 +16,7 @@ use Rattle.value.specs.Whole.{signed}
 use Rattle.value.specs.Block.{encodeOf, decodeOf, bitsIn, addressIn}
 use Rattle.value.specs.declared.block.Decoded.the-variants.{Value}
 use Rattle.value.specs.declared.sum.Total.the-variants.{Fits}
-use Rattle.value.proofs.Blocks.{decode-encode, decode-small, encode-length, read-value}
+use Rattle.value.proofs.Blocks.{and-left, decode-encode, decode-small, encode-length, read-value}
 use Rattle.value.proofs.Sums.{total-back}
 use Rattle.session.specs.Session.{freshOf}
 use Rattle.session.specs.declared.Kind.{Kind}
@@ -50,10 +50,6 @@ unfolding totalFor
 result Increment w x frame h e = total-back _ x e
 result Decrement w x frame h e = total-back _ x e
 result Restore w x frame h e = let q : w ≡ x = cc in (ap signed (sym q) ∙ sym (+ℤ-idr (signed w)), rw q at h)
-
-and-left : (x y : Bool) → (x && y) ≡ true → x ≡ true
-and-left true y h = refl
-and-left false y h = h
 
 not-true : (x y : Bool) → (x && not y) ≡ true → y ≡ false
 not-true true true h = absurd (false≢true h)

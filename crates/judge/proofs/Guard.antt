@@ -1,7 +1,7 @@
 -- Checks 5, 6 and 7 by the kind of block: a trailer's group is the last, and block 0 is no trailer.
 -- Assumes nothing.
 use mathlib.Core.Path.{_≡_, refl, sym, _∙_, ap}
-use mathlib.Core.Bool.{Bool, true, false, not, _&&_, _||_, cond, false≢true}
+use mathlib.Core.Bool.{Bool, true, false, not, cond, false≢true}
 use mathlib.Core.List.{List, [], _∷_}
 use Prim.Native.Nat.{ℕ, _<_}
 use native.Mathlib.Omega.{arith}
@@ -24,12 +24,12 @@ use Rattle.session.specs.Session.{inSector}
 use Rattle.session.specs.declared.Auth.{Auth}
 use Rattle.session.specs.declared.Auth.the-variants.{Nobody, As}
 use Rattle.layout.specs.declared.Sector.{Sector}
-use Rattle.judge.specs.First.{check, first, passes, refuses}
+use Rattle.judge.specs.First.{check, first}
 use Rattle.judge.specs.Checks.{accessOf, noBlock, otherSector, isBlocked, isForbidden, rightOf, hasRight, noRight, memoryChecks}
-use Rattle.judge.specs.Grant.{writableBy, trailerGrant, grantOf, granted, verdictOf}
-use Rattle.judge.specs.Code.{guardedOf, letterOf}
+use Rattle.judge.specs.Grant.{writableBy, trailerGrant, grantOf}
+use Rattle.judge.specs.Code.{granted, verdictOf, guardedOf, letterOf}
 use Rattle.judge.specs.declared.checks.Verdict.{Verdict}
-use Rattle.judge.specs.declared.checks.Verdict.the-variants.{Refuse, Whole, InParts}
+use Rattle.judge.specs.declared.checks.Verdict.the-variants.{Whole}
 
 -- block 0 is in the first group
 zero-first : (b : Block) → groupOf b ≡ Trailer → eqb (b .0) 0 ≡ false

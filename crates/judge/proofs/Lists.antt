@@ -27,8 +27,8 @@ use Rattle.judge.specs.declared.checks.Verdict.{Verdict}
 use Rattle.judge.specs.declared.checks.Verdict.the-variants.{Refuse, Whole, InParts}
 use Rattle.judge.specs.First.{Check, check, Outcome, passes, refuses, first, ruled}
 use Rattle.judge.specs.Checks.{accessOf, noValue, isForbidden, kindColumn, memoryChecks, checksOf}
-use Rattle.judge.specs.Grant.{trailerGrant, grantOf, granted, verdictOf}
-use Rattle.judge.specs.Code.{columnOf, blockOf, isMemory}
+use Rattle.judge.specs.Grant.{trailerGrant, grantOf}
+use Rattle.judge.specs.Code.{granted, verdictOf, columnOf, blockOf, isMemory}
 use Rattle.judge.specs.Judge.{shownAs, storedAs, doneOf, commandedOf}
 
 -- the first part refuses

@@ -1,6 +1,7 @@
 -- What only contracts inside this crate cite. What the card means does not rest on it.
 use mathlib.Core.Bool.{Bool, true, false, not, cond}
-use mathlib.Core.List.{[], _∷_}
+use mathlib.Core.List.{List, [], _∷_}
+use Prim.Native.Nat.{ℕ}
 use lib.Dec.{eqb}
 use Rattle.layout.specs.Layout.{isTrailer, groupOf}
 use Rattle.layout.specs.declared.Block.{Block}
@@ -16,11 +17,19 @@ use Rattle.session.specs.declared.Auth.{Auth}
 use Rattle.session.specs.declared.Auth.the-variants.{Nobody, As}
 use Rattle.frame.specs.declared.Command.{Command}
 use Rattle.frame.specs.declared.Command.the-variants.{Unknown, Authenticate, Read, Write, Store, Begin, Apply, Transfer, Halt}
-use Rattle.judge.specs.First.{check, first}
-use Rattle.judge.specs.Checks.{isBlocked, isForbidden, rightOf, kindColumn}
-use Rattle.judge.specs.Grant.{trailerGrant, granted}
+use Rattle.judge.specs.First.{check, Outcome, passes, refuses, first}
+use Rattle.judge.specs.Checks.{accessOf, isBlocked, isForbidden, rightOf, kindColumn, memoryChecks}
+use Rattle.judge.specs.Grant.{trailerGrant, grantOf}
 use Rattle.judge.specs.declared.checks.Verdict.{Verdict}
-use Rattle.judge.specs.declared.checks.Verdict.the-variants.{Whole}
+use Rattle.judge.specs.declared.checks.Verdict.the-variants.{Refuse, Whole}
+
+-- a grant stands where the checks pass
+unfoldable pub granted : Outcome → Verdict → Verdict
+granted passes v = v
+granted (refuses n) v = Refuse n
+
+unfoldable pub verdictOf : List ℕ → Auth → Operation → Block → Verdict
+verdictOf image auth o b = granted (first (memoryChecks image auth o b)) (grantOf (accessOf image b) auth o b)
 
 -- what the access bytes x of a sector leave of a block to a letter: 5, 6 and 7, then the grant
 abbrev pub guardedOf : AccessBytes → Letter → Operation → Block → Verdict

@@ -1,7 +1,6 @@
 -- What the rights give of a block to a memory command that passes: the whole of it, or parts of a trailer.
 use Prim.Native.Nat.{ℕ}
 use mathlib.Core.Bool.{false, _&&_, cond}
-use mathlib.Core.List.{List}
 use Rattle.layout.specs.Layout.{isTrailer}
 use Rattle.layout.specs.declared.Block.{Block}
 use Rattle.layout.specs.declared.Group.the-variants.{Trailer}
@@ -13,10 +12,8 @@ use Rattle.access.specs.declared.rights.Operation.the-variants as column
 use Rattle.access.specs.declared.rights.Parts.{Parts}
 use Rattle.session.specs.declared.Auth.{Auth}
 use Rattle.session.specs.declared.Auth.the-variants.{Nobody, As}
-use Rattle.judge.specs.First.{Outcome, passes, refuses, first}
-use Rattle.judge.specs.Checks.{accessOf, memoryChecks}
 use Rattle.judge.specs.declared.checks.Verdict.{Verdict}
-use Rattle.judge.specs.declared.checks.Verdict.the-variants.{Refuse, Whole, InParts}
+use Rattle.judge.specs.declared.checks.Verdict.the-variants.{Whole, InParts}
 
 -- the parts of a trailer with the bits m that a session may write
 unfoldable pub writableBy : Auth → ℕ → Parts
@@ -33,11 +30,3 @@ trailerGrant column.Decrement p m = InParts m
 -- of any block: a data block is taken whole
 unfoldable pub grantOf : AccessBytes → Auth → Operation → Block → Verdict
 grantOf x auth o b = cond (isTrailer b) (trailerGrant o (writableBy auth (groupBits x Trailer)) (groupBits x Trailer)) Whole
-
--- a grant stands where the checks pass
-unfoldable pub granted : Outcome → Verdict → Verdict
-granted passes v = v
-granted (refuses n) v = Refuse n
-
-unfoldable pub verdictOf : List ℕ → Auth → Operation → Block → Verdict
-verdictOf image auth o b = granted (first (memoryChecks image auth o b)) (grantOf (accessOf image b) auth o b)

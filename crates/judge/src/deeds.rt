@@ -3,6 +3,7 @@ ghost use mathlib.Core.Path.{_≡_};
 ghost use mathlib.Core.Bool.{true};
 ghost use mathlib.Core.List.{[], _∷_};
 ghost use Rattle.layout.specs.Layout.{sectorOf};
+ghost use Rattle.frame.specs.Command.{commandOf};
 ghost use Rattle.judge.specs.First.{check, first, ruled};
 ghost use Rattle.judge.specs.Checks.{authenticateChecks, kindColumn};
 ghost use Rattle.judge.specs.Code.{columnOf, blockOf, isMemory};
@@ -95,9 +96,9 @@ fn transfer(register: Register, b: Block) -> Act
     }
 }
 
-// A memory command: its checks, then what it does.
+// A memory command that the frame asks for: its checks, then what it does.
 pub(crate) fn perform(image: &[u8], s: Session, c: Command, frame: &[u8]) -> Act
-    requires { ⌜ isMemory c ≡ true ⌝ }
+    requires { ⌜ (isMemory c ≡ true) × (c ≡ commandOf (s .stage) (now frame)) ⌝ }
     ensures { λ r. ⌜ r ≡ commandedOf (now (image .entry)) s c (now (frame .entry)) ⌝ }
 {
     let auth = s.auth;

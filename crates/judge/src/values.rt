@@ -1,7 +1,8 @@
 // The two frames of a value operation, after the checks that every memory command has to pass.
 ghost use mathlib.Core.Path.{_≡_};
 ghost use mathlib.Core.List.{[], _∷_};
-ghost use Prim.Native.Nat.{_+_, _*_, _<_};
+ghost use Prim.Native.Nat.{_≤_};
+ghost use lib.ListN.{length};
 ghost use Rattle.value.specs.Block.{bitsIn};
 ghost use Rattle.judge.specs.First.{check, first, ruled};
 ghost use Rattle.judge.specs.Checks.{noValue};
@@ -41,36 +42,17 @@ fn load(t: Total, address: u8) -> Act
     }
 }
 
-fn wide(b: u8) -> u32
-    ensures { λ r. ⌜ (r ≡ b) × (r < 256) ⌝ }
-{
-    b as u32
-}
-
-// Four bytes as one number, low byte first.
-fn word(b0: u8, b1: u8, b2: u8, b3: u8) -> u32
-    ensures { λ r. ⌜ r ≡ b0 + 256 * b1 + 65536 * b2 + 16777216 * b3 ⌝ }
-{
-    wide(b0) + 256 * wide(b1) + 65536 * wide(b2) + 16777216 * wide(b3)
-}
-
-// The first four bytes of a frame, low byte first; a byte past its end is 0.
+// The first four bytes of a frame, low byte first.
 fn operand_of(frame: &[u8]) -> u32
+    requires { ⌜ 4 ≤ length (now frame) ⌝ }
     ensures { λ r. ⌜ r ≡ bitsIn (now (frame .entry)) ⌝ }
 {
-    if 4 <= frame.len() {
-        return word(frame[0], frame[1], frame[2], frame[3]);
-    }
-    word(
-        frame::byte(frame, 0),
-        frame::byte(frame, 1),
-        frame::byte(frame, 2),
-        frame::byte(frame, 3),
-    )
+    value::word(frame[0], frame[1], frame[2], frame[3])
 }
 
 // A value operation's second frame after the shared checks: 8, 10, and then the result is loaded.
 pub(crate) fn apply(image: &[u8], k: Kind, b: Block, frame: &[u8]) -> Act
+    requires { ⌜ 4 ≤ length (now frame) ⌝ }
     ensures { λ r. ⌜ r ≡ ruled (first (check 8 (noValue (now (image .entry)) b) ∷ [])) (appliedOf (now (image .entry)) k b (now (frame .entry))) ⌝ }
 {
     let operand = operand_of(frame);

@@ -7,7 +7,7 @@ use Prim.Native.Nat.{ℕ}
 use native.Mathlib.Omega.{arith}
 use lib.Dec.{eqb}
 use lib.ListN.{length}
-use borrow.Author.Tests.{eqb-true, eq-eqb, not-false}
+use borrow.Author.Tests.{eq-eqb, not-false}
 use Rattle.layout.specs.Layout.{sectorOf, isTrailer}
 use Rattle.layout.specs.declared.Block.{Block}
 use Rattle.memory.specs.Memory.{contentOf}
@@ -26,9 +26,10 @@ use Rattle.session.specs.declared.Stage.the-variants.{Idle, WriteWaits, ValueWa
 use Rattle.session.specs.declared.Register.{Register}
 use Rattle.session.specs.declared.Register.the-variants.{Empty, Full}
 use Rattle.session.specs.declared.Session.{Session}
-use Rattle.frame.specs.Command.{commandOf, firstOf, eightOf, twoOf}
+use Rattle.frame.specs.Command.{commandOf}
 use Rattle.frame.specs.declared.Command.{Command}
-use Rattle.frame.specs.declared.Command.the-variants.{Unknown, Authenticate, Read, Write, Store, Begin, Apply, Transfer, Halt}
+use Rattle.frame.specs.declared.Command.the-variants.{Read, Write, Store, Begin, Apply, Transfer}
+use Rattle.frame.proofs.Came.{Came, unknown, authenticate, reads, writes, stores, begins, applies, transfers, halts, came}
 use Rattle.judge.specs.First.{Check, check, passes, first, ruled}
 use Rattle.judge.specs.Checks.{accessOf, noBlock, otherSector, isBlocked, wrongKey, noValue, kindColumn, memoryChecks, checksOf, authenticateChecks, frameChecks}
 use Rattle.judge.specs.Grant.{writableBy, trailerGrant, grantOf}
@@ -60,49 +61,6 @@ unfolding first
 both [] ys e = (refl, e)
 both (check n true ∷ xs) ys e = (cc, cc)
 both (check n false ∷ xs) ys e = both xs ys e
-
--- what a frame was taken for, and from which stage
-data Came (frame : List ℕ) : Stage → Command → Type 0 where
-  unknown : {w : Stage} → Came frame w Unknown
-  authenticate : (b : Block) (l : Letter) → Came frame Idle (Authenticate b l)
-  reads : (b : Block) → Came frame Idle (Read b)
-  writes : (b : Block) → Came frame Idle (Write b)
-  stores : (b : Block) → length frame ≡ 16 → Came frame (WriteWaits b) (Store b)
-  begins : (b : Block) (k : Kind) → Came frame Idle (Begin b k)
-  applies : (b : Block) (k : Kind) → Came frame (ValueWaits k b) (Apply b k)
-  transfers : (b : Block) → Came frame Idle (Transfer b)
-  halts : Came frame Idle Halt
-
-either : (frame : List ℕ) (w : Stage) (t : Bool) (x y : Command) → Came frame w x → Came frame w y → Came frame w (cond t x y)
-either frame w true x y p q = p
-either frame w false x y p q = q
-
-two : (frame : List ℕ) (code b : ℕ) → Came frame Idle (twoOf code b)
-unfolding twoOf
-two frame code b =
-    either frame Idle (eqb code 0x30) _ _ (reads _)
-    (either frame Idle (eqb code 0xA0) _ _ (writes _)
-    (either frame Idle (eqb code 0xC1) _ _ (begins _ _)
-    (either frame Idle (eqb code 0xC0) _ _ (begins _ _)
-    (either frame Idle (eqb code 0xC2) _ _ (begins _ _)
-    (either frame Idle (eqb code 0xB0) _ _ (transfers _)
-    (either frame Idle (eqb code 0x50) _ _ (either frame Idle (eqb b 0) _ _ halts unknown) unknown))))))
-
-eight : (frame : List ℕ) (code b : ℕ) → Came frame Idle (eightOf code b)
-unfolding eightOf
-eight frame code b =
-    either frame Idle (eqb code 0x60) _ _ (authenticate _ _) (either frame Idle (eqb code 0x61) _ _ (authenticate _ _) unknown)
-
-came : (w : Stage) (frame : List ℕ) → Came frame w (commandOf w frame)
-unfolding commandOf firstOf
-came Idle frame =
-    either frame Idle (eqb (length frame) 8) _ _ (eight frame _ _) (either frame Idle (eqb (length frame) 2) _ _ (two frame _ _) unknown)
-came (WriteWaits b) frame = go (eqb (length frame) 16) refl
-  where
-    go : (t : Bool) → eqb (length frame) 16 ≡ t → Came frame (WriteWaits b) (cond t (Store b) Unknown)
-    go true e = stores b (eqb-true (length frame) 16 e)
-    go false e = unknown
-came (ValueWaits k b) frame = either frame (ValueWaits k b) (eqb (length frame) 4) _ _ (applies b k) unknown
 
 -- no check's number is 0
 abbrev numbered : List Check → Bool
@@ -180,7 +138,7 @@ module _ (image : List ℕ) (s : Session) (frame : List ℕ) where
   command w c e (writes b) = rule (checksOf image s (Write b) frame) _ refl (λ p. (e, allowed image (s .auth) column.Write b p))
   command w c e (stores b l) = rule (checksOf image s (Store b) frame) _ refl (λ p. stored b e (allowed image (s .auth) column.Write b p) l)
   command w c e (begins b k) = rule (checksOf image s (Begin b k) frame) _ refl (λ p. (e, countable k b p))
-  command w c e (applies b k) =
+  command w c e (applies b k four) =
       rule (checksOf image s (Apply b k) frame) _ refl
       (λ p. load k b (totalFor k (bitsIn (contentOf image b)) (bitsIn frame)) e (countable k b p) refl)
   command w c e (transfers b) =

@@ -3,13 +3,13 @@
 use mathlib.Core.Path.{_≡_, refl, sym, _∙_, ap}
 use mathlib.Core.Bool.{Bool, true, false, _&&_, cond}
 use mathlib.Core.List.{List, [], _∷_}
-use Prim.Native.Nat.{ℕ, zero, suc, _+_, _*_, _/_, _%_, _<_}
+use Prim.Native.Nat.{ℕ, zero, suc, _/_, _%_, _<_}
 use native.Mathlib.Omega.{arith}
 use lib.Dec.{eqb, ltb}
 use lib.ListN.{getD, length}
 use borrow.Author.Tests.{eq-eqb, ne-eqb, le-ltb}
-use Rattle.value.specs.Block.{fourOf, bitsIn, same}
-use Rattle.value.proofs.Words.{listed, word}
+use Rattle.value.specs.Block.{wordOf, fourOf, bitsIn, same}
+use Rattle.value.proofs.Words.{listed}
 use Rattle.value.proofs.Blocks.{four-back, same-eq}
 use Rattle.session.specs.declared.Register.the-variants.{Empty, Full}
 use Rattle.record.specs.Record.{valueBits, recordOf, authBy, stageBy, registerBy, isAuth, isStage, isRegister, valueIn, namedBy, isRecord}
@@ -74,17 +74,17 @@ module _ (a b c d v : ℕ) (ha : a < 256) (hb : b < 256) (hc : c < 256) (hd : d 
   abbrev four : List ℕ
   four = a ∷ b ∷ c ∷ d ∷ []
 
-  apart : word a b c d ≡ v → (a ≡ v % 256) × (b ≡ v / 256 % 256) × (c ≡ v / 65536 % 256) × (d ≡ v / 16777216 % 256)
+  apart : wordOf a b c d ≡ v → (a ≡ v % 256) × (b ≡ v / 256 % 256) × (c ≡ v / 65536 % 256) × (d ≡ v / 16777216 % 256)
   apart e = omega arith
 
-  word-judged : eqb (word a b c d) v ≡ same four (fourOf v)
+  word-judged : eqb (wordOf a b c d) v ≡ same four (fourOf v)
   word-judged = go (same four (fourOf v)) refl
     where
-      go : (t : Bool) → same four (fourOf v) ≡ t → eqb (word a b c d) v ≡ t
+      go : (t : Bool) → same four (fourOf v) ≡ t → eqb (wordOf a b c d) v ≡ t
       go true q = eq-eqb _ _ (ap bitsIn (same-eq four (fourOf v) q) ∙ four-back v fits)
       go false q =
           ne-eqb _ _
-          (λ (e : word a b c d ≡ v).
+          (λ (e : wordOf a b c d ≡ v).
           let p = apart e in
           let s : same four (fourOf v) ≡ true = rw (eq-eqb _ _ (p .0), eq-eqb _ _ (p .1), eq-eqb _ _ (p .2), eq-eqb _ _ (p .3)) in
           let z : _≡_ {A = ℕ} 0 1 = cc in

@@ -1,7 +1,6 @@
 // Whether twelve bytes are a record, judged part by part, which is quicker than to write the session again and compare.
 ghost use mathlib.Core.Path.{_≡_};
 ghost use Rattle.record.specs.Record.{isAuth, isStage, isRegister, isRecord};
-use crate::named;
 
 // Nobody is in no sector; key A and key B may be in any.
 fn is_auth(who: u8, sector: u8) -> bool
@@ -32,7 +31,7 @@ fn is_register(full: u8, address: u8, value: u32) -> bool
 pub(crate) fn is_record(bytes: [u8; 12]) -> bool
     ensures { λ r. ⌜ r ≡ isRecord bytes ⌝ }
 {
-    let value = named::word(bytes[8], bytes[9], bytes[10], bytes[11]);
+    let value = value::word(bytes[8], bytes[9], bytes[10], bytes[11]);
     is_auth(bytes[0], bytes[1])
         & is_stage(bytes[2], bytes[3])
         & is_register(bytes[4], bytes[5], value)

@@ -27,11 +27,7 @@ pub fn encode(s: Session) -> [u8; 12]
     let block = codes::block_byte(stage);
     let full = codes::full_code(register);
     let address = codes::address_byte(register);
-    let value = codes::value_bits(register);
-    let v0 = (value % 256) as u8;
-    let v1 = (value / 256 % 256) as u8;
-    let v2 = (value / 65536 % 256) as u8;
-    let v3 = (value / 16777216 % 256) as u8;
+    let value = value::four(codes::value_bits(register));
     [
         who,
         sector,
@@ -41,10 +37,10 @@ pub fn encode(s: Session) -> [u8; 12]
         address,
         0,
         0,
-        v0,
-        v1,
-        v2,
-        v3,
+        value[0],
+        value[1],
+        value[2],
+        value[3],
     ]
 }
 
@@ -54,7 +50,7 @@ fn named_by(bytes: [u8; 12]) -> Session
 {
     let auth = named::auth_by(bytes[0], bytes[1]);
     let stage = named::stage_by(bytes[2], bytes[3]);
-    let value = named::word(bytes[8], bytes[9], bytes[10], bytes[11]);
+    let value = value::word(bytes[8], bytes[9], bytes[10], bytes[11]);
     let register = named::register_by(bytes[4], bytes[5], value);
     Session {
         auth,

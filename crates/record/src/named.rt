@@ -1,6 +1,5 @@
 // The parts of a session that codes and bytes name; an unknown code names none.
 ghost use mathlib.Core.Path.{_≡_};
-ghost use Prim.Native.Nat.{_+_, _*_, _<_};
 ghost use Rattle.record.specs.Record.{authBy, stageBy, registerBy};
 use access::Letter;
 use layout::Block;
@@ -47,17 +46,4 @@ pub(crate) fn register_by(full: u8, address: u8, value: u32) -> Register
         return Register::Full(value, address);
     }
     Register::Empty
-}
-
-fn wide(b: u8) -> u32
-    ensures { λ r. ⌜ (r ≡ b) × (r < 256) ⌝ }
-{
-    b as u32
-}
-
-// Four bytes as one number, low byte first.
-pub(crate) fn word(b0: u8, b1: u8, b2: u8, b3: u8) -> u32
-    ensures { λ r. ⌜ r ≡ b0 + 256 * b1 + 65536 * b2 + 16777216 * b3 ⌝ }
-{
-    wide(b0) + 256 * wide(b1) + 65536 * wide(b2) + 16777216 * wide(b3)
 }

@@ -9,6 +9,10 @@ use Rattle.value.specs.Whole.{signed, bits}
 use Rattle.value.specs.declared.block.Decoded.{Decoded}
 use Rattle.value.specs.declared.block.Decoded.the-variants.{Value, NoValue}
 
+-- four bytes as one number, low byte first
+abbrev pub wordOf : ℕ → ℕ → ℕ → ℕ → ℕ
+wordOf b₀ b₁ b₂ b₃ = b₀ + 256 * b₁ + 65536 * b₂ + 16777216 * b₃
+
 -- the four bytes of 32 bits, low byte first
 abbrev pub fourOf : ℕ → List ℕ
 fourOf n = (n % 256) ∷ (n / 256 % 256) ∷ (n / 65536 % 256) ∷ (n / 16777216 % 256) ∷ []
@@ -26,9 +30,9 @@ unfoldable pub encodeOf : ℤ → ℕ → List ℕ
 encodeOf value address =
     fourOf (bits value) ++ (inverted (fourOf (bits value)) ++ (fourOf (bits value) ++ addressOf address))
 
--- the 32 bits that bytes 0 to 3 hold, low byte first
+-- the 32 bits that bytes 0 to 3 hold
 abbrev pub bitsIn : List ℕ → ℕ
-bitsIn block = getD block 0 0 + 256 * getD block 1 0 + 65536 * getD block 2 0 + 16777216 * getD block 3 0
+bitsIn block = wordOf (getD block 0 0) (getD block 1 0) (getD block 2 0) (getD block 3 0)
 
 -- the address byte that byte 12 holds
 abbrev pub addressIn : List ℕ → ℕ

@@ -1,8 +1,11 @@
 // A value and an address byte as sixteen bytes, there and back.
 ghost use mathlib.Core.Path.{_≡_};
-ghost use Prim.Native.Nat.{_+_, _*_, _-_, _<_};
+ghost use mathlib.Core.Bool.{_&&_};
+ghost use Prim.Native.Nat.{_-_};
+ghost use lib.Dec.{eqb};
 ghost use Rattle.value.specs.Whole.{signed};
 ghost use Rattle.value.specs.Block.{encodeOf, decodeOf, agreeing};
+use crate::bytes;
 
 // What sixteen bytes hold: a value, as its bits, with an address byte; or they are no value block.
 pub enum Decoded {
@@ -14,23 +17,21 @@ pub enum Decoded {
 pub fn encode(value: u32, address: u8) -> [u8; 16]
     ensures { λ r. ⌜ r ≡ encodeOf (signed value) address ⌝ }
 {
-    let b0 = (value % 256) as u8;
-    let b1 = (value / 256 % 256) as u8;
-    let b2 = (value / 65536 % 256) as u8;
-    let b3 = (value / 16777216 % 256) as u8;
+    let plain = bytes::four(value);
+    let inverted = bytes::four(4294967295 - value);
     [
-        b0,
-        b1,
-        b2,
-        b3,
-        255 - b0,
-        255 - b1,
-        255 - b2,
-        255 - b3,
-        b0,
-        b1,
-        b2,
-        b3,
+        plain[0],
+        plain[1],
+        plain[2],
+        plain[3],
+        inverted[0],
+        inverted[1],
+        inverted[2],
+        inverted[3],
+        plain[0],
+        plain[1],
+        plain[2],
+        plain[3],
         address,
         255 - address,
         address,
@@ -38,37 +39,22 @@ pub fn encode(value: u32, address: u8) -> [u8; 16]
     ]
 }
 
-fn wide(b: u8) -> u32
-    ensures { λ r. ⌜ (r ≡ b) × (r < 256) ⌝ }
+// An address byte, then inverted, again, and inverted again?
+fn is_address(a: u8, b: u8, c: u8, d: u8) -> bool
+    ensures { λ r. ⌜ r ≡ (eqb b (255 - a) && eqb c a && eqb d (255 - a)) ⌝ }
 {
-    b as u32
+    (b == 255 - a) & (c == a) & (d == 255 - a)
 }
 
-// Four bytes as one number, low byte first.
-fn word(b0: u8, b1: u8, b2: u8, b3: u8) -> u32
-    ensures { λ r. ⌜ r ≡ b0 + 256 * b1 + 65536 * b2 + 16777216 * b3 ⌝ }
-{
-    wide(b0) + 256 * wide(b1) + 65536 * wide(b2) + 16777216 * wide(b3)
-}
-
-// An address byte as a block ends with it.
-fn address_word(address: u8) -> u32
-    ensures { λ r. ⌜ r ≡ address + 256 * (255 - address) + 65536 * address + 16777216 * (255 - address) ⌝ }
-{
-    word(address, 255 - address, address, 255 - address)
-}
-
-// All sixteen bytes agree, compared as four words.
+// All sixteen bytes agree: the value's compared as three words, the address byte's one by one.
 fn agrees(block: [u8; 16]) -> bool
     ensures { λ r. ⌜ r ≡ agreeing block ⌝ }
 {
-    let plain = word(block[0], block[1], block[2], block[3]);
-    let inverted = word(block[4], block[5], block[6], block[7]);
-    let again = word(block[8], block[9], block[10], block[11]);
-    let address = word(block[12], block[13], block[14], block[15]);
-    let a = block[12];
-    let wanted = address_word(a);
-    (inverted == 4294967295 - plain) & (again == plain) & (address == wanted)
+    let plain = bytes::word(block[0], block[1], block[2], block[3]);
+    let inverted = bytes::word(block[4], block[5], block[6], block[7]);
+    let again = bytes::word(block[8], block[9], block[10], block[11]);
+    let address = is_address(block[12], block[13], block[14], block[15]);
+    (inverted == 4294967295 - plain) & (again == plain) & address
 }
 
 // The value and the address byte of sixteen bytes, where they are a value block.
@@ -76,7 +62,10 @@ pub fn decode(block: [u8; 16]) -> Decoded
     ensures { λ r. ⌜ r ≡ decodeOf block ⌝ }
 {
     if agrees(block) {
-        return Decoded::Value(word(block[0], block[1], block[2], block[3]), block[12]);
+        return Decoded::Value(
+            bytes::word(block[0], block[1], block[2], block[3]),
+            block[12],
+        );
     }
     Decoded::NoValue
 }

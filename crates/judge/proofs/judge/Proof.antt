@@ -30,7 +30,7 @@ enum-told-2 : tie.Need-enum-told-2
 enum-told-2 c = search needs
 
 perform-requires : tie.Need-perform-requires
-perform-requires c κs = is-memory _ (c .match .keys4)
+perform-requires c κs = (is-memory _ (c .match .keys4), c .before .command-of .ensures)
 
 returns : tie.Need-returns
 unfolding judgeOf frameChecks first ruled

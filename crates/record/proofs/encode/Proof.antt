@@ -25,21 +25,24 @@ address-byte-requires c κs = search needs
 value-bits-requires : tie.Need-value-bits-requires
 value-bits-requires c κs = search needs
 
-cast-v0 : tie.Need-cast-v0
-cast-v0 c = search needs
+four-requires : tie.Need-four-requires
+four-requires c κs = search needs
 
-cast-v1 : tie.Need-cast-v1
-cast-v1 c = search needs
+array-read-t16 : tie.Need-array-read-t16
+array-read-t16 c = search needs
 
-cast-v2 : tie.Need-cast-v2
-cast-v2 c = search needs
+array-read-t19 : tie.Need-array-read-t19
+array-read-t19 c = search needs
 
-cast-v3 : tie.Need-cast-v3
-cast-v3 c = search needs
+array-read-t22 : tie.Need-array-read-t22
+array-read-t22 c = search needs
+
+array-read-t25 : tie.Need-array-read-t25
+array-read-t25 c = search needs
 
 returns : tie.Need-returns
 unfolding recordOf
-returns c = rw (c .value-bits .ensures, c .before .address-byte .ensures, c .before .before .full-code .ensures, c .before .before .before .block-byte .ensures, c .before .before .before .before .stage-code .ensures, c .before .before .before .before .before .sector-byte .ensures, c .before .before .before .before .before .before .who-code .ensures)
+returns c = rw (c .four .ensures, c .before .value-bits .ensures, c .before .before .address-byte .ensures, c .before .before .before .full-code .ensures, c .before .before .before .before .block-byte .ensures, c .before .before .before .before .before .stage-code .ensures, c .before .before .before .before .before .before .sector-byte .ensures, c .before .before .before .before .before .before .before .who-code .ensures)
 
 pub encode-spec : {M : Type 1} → statement M
 encode-spec =
@@ -52,8 +55,9 @@ encode-spec =
     full-code-requires
     address-byte-requires
     value-bits-requires
-    cast-v0
-    cast-v1
-    cast-v2
-    cast-v3
+    four-requires
+    array-read-t16
+    array-read-t19
+    array-read-t22
+    array-read-t25
     returns)

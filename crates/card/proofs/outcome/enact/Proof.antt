@@ -36,9 +36,6 @@ enum-known-act-4 c = search needs
 content-requires-2 : tie.Need-content-requires-2
 content-requires-2 c κs = search needs
 
-is-readable-requires : tie.Need-is-readable-requires
-is-readable-requires c κs = search needs
-
 shown-requires : tie.Need-shown-requires
 shown-requires c κs = search needs
 
@@ -149,7 +146,7 @@ same-length-2 c = search needs
 
 returns-4 : tie.Need-returns-4
 unfolding answered numberOf signOf replyOf sessionOf imageOf
-returns-4 c = (c .accepted2 .ensures ∙ rw (c .before .shown .ensures, c .before .before .is-readable .ensures, c .before .before .before .content2 .ensures, c .before .before .before .before .before .before .act4 .given .1), rw (c .before .before .before .before .before .before .act4 .given .1))
+returns-4 c = (c .accepted2 .ensures ∙ rw (c .before .shown .ensures, c .before .before .content2 .ensures, c .before .before .before .before .before .act4 .given .1), rw (c .before .before .before .before .before .act4 .given .1))
 
 returns-5 : tie.Need-returns-5
 unfolding answered numberOf signOf replyOf sessionOf imageOf
@@ -202,7 +199,6 @@ enact-spec =
     accepted-requires
     enum-known-act-4
     content-requires-2
-    is-readable-requires
     shown-requires
     accepted-requires-2
     enum-known-act-5

@@ -2,7 +2,7 @@
 use mathlib.Core.Path.{_≡_, _∙_, ap}
 use Prim.Native.Nat.{ℕ, _-_, _≤_}
 use lib.ListN.{length, length-set}
-use Rattle.card.specs.Trailer.{patchedOf}
+use Rattle.card.specs.Code.{patchedOf}
 use Rattle.card.proofs.Join.{patch-none, patch-step}
 use borrow.Author.Needs.{needs}
 use Rattle.card.proofs.trailer.patched.Statement.{statement}

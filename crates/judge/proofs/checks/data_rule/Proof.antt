@@ -1,7 +1,7 @@
 -- Check 6, the bar of a readable key B, and the right itself.
 use Rattle.judge.specs.First.{first}
 use Rattle.judge.specs.Checks.{rightOf}
-use Rattle.judge.specs.Grant.{granted}
+use Rattle.judge.specs.Code.{granted}
 use borrow.Author.Needs.{needs}
 use Rattle.judge.proofs.checks.data_rule.Statement.{statement}
 use Rattle.judge.proofs.checks.data_rule.Tie as tie

@@ -4,7 +4,7 @@ use Rattle.access.proofs.BitLaws.{closed, opened}
 use Rattle.access.specs.Bits.{groupBits}
 use Rattle.judge.specs.First.{first}
 use Rattle.judge.specs.Checks.{isBlocked}
-use Rattle.judge.specs.Grant.{granted}
+use Rattle.judge.specs.Code.{granted}
 use Rattle.judge.proofs.Guard.{trailer-way, data-way}
 use borrow.Author.Needs.{needs}
 use Rattle.judge.proofs.checks.guarded.Statement.{statement}

@@ -1,8 +1,7 @@
 -- 2 and 3, then what the sector says.
-use mathlib.Core.Path.{_≡_, _∙_, ap}
 use Rattle.judge.specs.First.{first}
 use Rattle.judge.specs.Checks.{noBlock, otherSector, memoryChecks}
-use Rattle.judge.specs.Grant.{granted, verdictOf}
+use Rattle.judge.specs.Code.{granted, verdictOf}
 use Rattle.judge.proofs.Guard.{decided}
 use borrow.Author.Needs.{needs}
 use Rattle.judge.proofs.checks.memory_verdict.Statement.{statement}

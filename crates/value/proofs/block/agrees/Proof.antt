@@ -1,4 +1,4 @@
--- The four words agree exactly when all sixteen bytes do.
+-- Three words and the address bytes agree exactly when all sixteen bytes do.
 use Prim.Native.Nat.{ℕ}
 use lib.ListN.{getD}
 use mir.Syntax.{w8}
@@ -53,34 +53,28 @@ array-read-word-12 c = search needs
 word-requires-3 : tie.Need-word-requires-3
 word-requires-3 c κs = search needs
 
-array-read-word-13 : tie.Need-array-read-word-13
-array-read-word-13 c = search needs
+array-read-is-address : tie.Need-array-read-is-address
+array-read-is-address c = search needs
 
-array-read-word-14 : tie.Need-array-read-word-14
-array-read-word-14 c = search needs
+array-read-is-address-2 : tie.Need-array-read-is-address-2
+array-read-is-address-2 c = search needs
 
-array-read-word-15 : tie.Need-array-read-word-15
-array-read-word-15 c = search needs
+array-read-is-address-3 : tie.Need-array-read-is-address-3
+array-read-is-address-3 c = search needs
 
-array-read-word-16 : tie.Need-array-read-word-16
-array-read-word-16 c = search needs
+array-read-is-address-4 : tie.Need-array-read-is-address-4
+array-read-is-address-4 c = search needs
 
-word-requires-4 : tie.Need-word-requires-4
-word-requires-4 c κs = search needs
-
-array-read-a : tie.Need-array-read-a
-array-read-a c = search needs
-
-address-word-requires : tie.Need-address-word-requires
-address-word-requires c κs = search needs
+is-address-requires : tie.Need-is-address-requires
+is-address-requires c κs = search needs
 
 sub-result : tie.Need-sub-result
 sub-result c = search needs
 
 returns : tie.Need-returns
-returns c = let block = c .before .before .before .before .before .args .t1 in
+returns c = let block = c .before .before .before .before .args .t1 in
     let byte : (i : ℕ) → Fits w8 (getD block i 0) = λ i. search needs in
-    rw (c .before .before .before .before .word .ensures, c .before .before .before .word2 .ensures, c .before .before .word3 .ensures, c .before .word4 .ensures, c .address-word .ensures)
+    rw (c .before .before .before .word .ensures, c .before .before .word2 .ensures, c .before .word3 .ensures, c .is-address .ensures)
     (words-agree block (search needs) (λ i. byte i .fits))
 
 pub agrees-spec : {M : Type 1} → statement M
@@ -102,12 +96,10 @@ agrees-spec =
     array-read-word-11
     array-read-word-12
     word-requires-3
-    array-read-word-13
-    array-read-word-14
-    array-read-word-15
-    array-read-word-16
-    word-requires-4
-    array-read-a
-    address-word-requires
+    array-read-is-address
+    array-read-is-address-2
+    array-read-is-address-3
+    array-read-is-address-4
+    is-address-requires
     sub-result
     returns)
