@@ -1,5 +1,7 @@
-/* Tirlwheel: a MIFARE Classic card in software. Link with libedge.a, which `rt staticlib edge` builds (x86-64 Linux), and for
- * tirlwheel_play with libprintout.a, which `rt staticlib printout` builds.
+/* Tirlwheel: a MIFARE Classic card in software. Link with libedge.a, which `rt staticlib edge` builds (x86-64 Linux), for
+ * tirlwheel_sealed_frame with libchip.a, which `rt staticlib chip` builds, and for tirlwheel_play with libprintout.a, which
+ * `rt staticlib printout` builds. A board whose frames all have their checksum links libchip.a, and libedge.a as well if it
+ * needs the field reset.
  *
  * The libraries open nothing, allocate nothing and keep nothing between calls: image, session and reply are the caller's.
  * Each call's result is proved for every input. What no proof covers is the caller's part: each pointer is good for the length
@@ -15,9 +17,10 @@
 extern "C" {
 #endif
 
-#define TIRLWHEEL_SESSION 12     /* bytes of a session's record */
-#define TIRLWHEEL_REPLY 16       /* bytes of a reply */
-#define TIRLWHEEL_PRINTOUT 65536 /* bytes of the player's buffer */
+#define TIRLWHEEL_SESSION 12      /* bytes of a session's record */
+#define TIRLWHEEL_REPLY 16        /* bytes of a reply */
+#define TIRLWHEEL_SEALED_REPLY 18 /* bytes of a reply with its checksum */
+#define TIRLWHEEL_PRINTOUT 65536  /* bytes of the player's buffer */
 
 /* A result holds the number in its low byte and the sign in the next. */
 #define TIRLWHEEL_NUMBER(result) ((result) & 0xFFu)
@@ -26,7 +29,7 @@ extern "C" {
 /* What went on the air. */
 #define TIRLWHEEL_ACK 0u
 #define TIRLWHEEL_NAK 1u
-#define TIRLWHEEL_DATA 2u /* the sixteen bytes of a Read */
+#define TIRLWHEEL_DATA 2u /* the sixteen bytes of a Read, with their checksum if the frame had one */
 #define TIRLWHEEL_NOTHING 3u
 
 /* The numbers. 0 is accepted. Every other is a refusal: it changes no byte of the image, clears the reply and leaves the fresh
@@ -35,6 +38,8 @@ extern "C" {
  *   11  the image is not 1,024 or 4,096 bytes long                                                          nothing on the air
  *   12  the session names a sector the image lacks, or has a stage or a full register with nobody authenticated,
  *       or the twelve bytes are no session's record                                                         nothing
+ *   14  fewer than three bytes, or the last two are not the checksum of the rest; a Halt's too
+ *       (tirlwheel_sealed_frame only)                                                                       NAK
  *    1  unknown code, wrong length, empty frame, or a Halt whose second byte is not 00h                     nothing
  *    2  no such block                                                                                       NAK
  *    3  the block's sector is not the authenticated one, or none is                                         NAK
@@ -64,6 +69,13 @@ extern "C" {
  * for an accepted Read and sixteen zeros for every other answer. */
 uint32_t tirlwheel_frame(uint8_t *image, size_t image_len, uint8_t session[12], const uint8_t *frame, size_t frame_len,
                          uint8_t reply[16]);
+
+/* One frame as a reader chip hands it over: the bytes of a frame, then their CRC_A of ISO/IEC 14443-3, low byte first. With a
+ * right checksum it is answered as tirlwheel_frame answers the bytes before it; so 1 judges the length without it. `reply` is the
+ * block and its checksum for an accepted Read and eighteen zeros for every other answer. The session's record is that of
+ * tirlwheel_frame: the two may be called in turn, and the field reset is tirlwheel_field_reset. */
+uint32_t tirlwheel_sealed_frame(uint8_t *image, size_t image_len, uint8_t session[12], const uint8_t *frame, size_t frame_len,
+                                uint8_t reply[18]);
 
 /* The reader's field went away and came back. Always accepted, whatever the twelve bytes were: number 0, nothing on the air, the
  * fresh session, sixteen zeros. */

@@ -1,6 +1,9 @@
 //! The card of paper 01 as an unverified engineer would write it, from the paper's text alone.
 
-use crate::layout::{bytes_of, bytes_of_mut, group_of, has_block, is_image, is_trailer, sector_of, sectors, trailer_of, BlockBytes, TRAILER_GROUP};
+use crate::crc::{seal_of, Seal};
+use crate::layout::{
+    bytes_of, bytes_of_mut, group_of, has_block, is_image, is_trailer, sector_of, sectors, trailer_of, BlockBytes, BLOCK_BYTES, TRAILER_GROUP,
+};
 use crate::rights::{data, has, trailer, AccessBits, Key, DECREMENT, INCREMENT, READ, WRITE};
 use crate::value::Value;
 
@@ -35,7 +38,11 @@ pub enum Sign {
     Nothing,
 }
 
-/// An answer but for its sixteen bytes, which are lent.
+/// The sixteen bytes of a Read and their checksum.
+pub const SEALED_BYTES: usize = BLOCK_BYTES + size_of::<Seal>();
+pub type SealedReply = [u8; SEALED_BYTES];
+
+/// An answer but for its reply, which is lent.
 #[derive(Clone, Copy, PartialEq, Eq, Debug)]
 pub struct Answer {
     pub number: u8,
@@ -50,9 +57,29 @@ pub fn refusal(number: u8) -> Answer {
 /// An accepted frame's sign, or the number of its refusal.
 type Judged = Result<Sign, u8>;
 
+/// The entry that a frame came by. The compiler builds a card for each, as there is one in each of the libraries; shared, both would be slower.
+const BARE: bool = false;
+const SEALED: bool = true;
+
 pub fn frame(image: &mut [u8], session: &mut Session, frame: &[u8], reply: &mut BlockBytes) -> Answer {
     *reply = [0; 16];
-    match judge(image, session, frame, reply) {
+    let judged = judge(image, session, frame, reply);
+    answered(session, judged)
+}
+
+/// A frame with its checksum, as the reader chip hands it over. The reply of a Read has its own.
+pub fn sealed_frame(image: &mut [u8], session: &mut Session, frame: &[u8], reply: &mut SealedReply) -> Answer {
+    *reply = [0; SEALED_BYTES];
+    let (data, seal) = reply.split_first_chunk_mut().unwrap();
+    let judged = judge_sealed(image, session, frame, data);
+    if judged == Ok(Sign::Data) {
+        seal.copy_from_slice(&seal_of(data));
+    }
+    answered(session, judged)
+}
+
+fn answered(session: &mut Session, judged: Judged) -> Answer {
+    match judged {
         Ok(sign) => Answer { number: 0, sign },
         Err(number) => {
             *session = FRESH;
@@ -68,36 +95,58 @@ pub fn field_reset(session: &mut Session, reply: &mut BlockBytes) -> Answer {
 }
 
 fn judge(image: &mut [u8], session: &mut Session, frame: &[u8], reply: &mut BlockBytes) -> Judged {
+    fit::<BARE>(image, session)?;
+    obey::<BARE>(image, session, frame, reply)
+}
+
+fn judge_sealed(image: &mut [u8], session: &mut Session, frame: &[u8], reply: &mut BlockBytes) -> Judged {
+    fit::<SEALED>(image, session)?;
+    let bytes = unsealed(frame).ok_or(14)?;
+    obey::<SEALED>(image, session, bytes, reply)
+}
+
+/// The checks that come before the frame's own.
+fn fit<const ENTRY: bool>(image: &[u8], session: &Session) -> Result<(), u8> {
     if !is_image(image) {
         return Err(11);
     }
-    if !is_coherent(image, session) {
+    if !is_coherent::<ENTRY>(image, session) {
         return Err(12);
     }
+    Ok(())
+}
+
+/// The bytes before a right checksum, if there are any.
+fn unsealed(frame: &[u8]) -> Option<&[u8]> {
+    let (bytes, seal) = frame.split_last_chunk()?;
+    (!bytes.is_empty() && *seal == seal_of(bytes)).then_some(bytes)
+}
+
+fn obey<const ENTRY: bool>(image: &mut [u8], session: &mut Session, frame: &[u8], reply: &mut BlockBytes) -> Judged {
     match session.stage {
-        Stage::None => command(image, session, frame, reply),
-        Stage::Write { block } => write_data(image, session, block, frame),
-        Stage::Value { operation, block } => operand(image, session, operation, block, frame),
+        Stage::None => command::<ENTRY>(image, session, frame, reply),
+        Stage::Write { block } => write_data::<ENTRY>(image, session, block, frame),
+        Stage::Value { operation, block } => operand::<ENTRY>(image, session, operation, block, frame),
     }
 }
 
-fn is_coherent(image: &[u8], session: &Session) -> bool {
+fn is_coherent<const ENTRY: bool>(image: &[u8], session: &Session) -> bool {
     match session.authenticated {
         Some((sector, _)) => sector < sectors(image),
         None => session.stage == Stage::None && session.register.is_none(),
     }
 }
 
-fn command(image: &mut [u8], session: &mut Session, frame: &[u8], reply: &mut BlockBytes) -> Judged {
+fn command<const ENTRY: bool>(image: &mut [u8], session: &mut Session, frame: &[u8], reply: &mut BlockBytes) -> Judged {
     match *frame {
-        [0x60, block, ref key @ ..] if key.len() == 6 => authenticate(image, session, block, Key::A, key.try_into().unwrap()),
-        [0x61, block, ref key @ ..] if key.len() == 6 => authenticate(image, session, block, Key::B, key.try_into().unwrap()),
-        [0x30, block] => read(image, session, block, reply),
-        [0xA0, block] => write(image, session, block),
-        [0xC1, block] => value_operation(image, session, Operation::Increment, block),
-        [0xC0, block] => value_operation(image, session, Operation::Decrement, block),
-        [0xC2, block] => value_operation(image, session, Operation::Restore, block),
-        [0xB0, block] => transfer(image, session, block),
+        [0x60, block, ref key @ ..] if key.len() == 6 => authenticate::<ENTRY>(image, session, block, Key::A, key.try_into().unwrap()),
+        [0x61, block, ref key @ ..] if key.len() == 6 => authenticate::<ENTRY>(image, session, block, Key::B, key.try_into().unwrap()),
+        [0x30, block] => read::<ENTRY>(image, session, block, reply),
+        [0xA0, block] => write::<ENTRY>(image, session, block),
+        [0xC1, block] => value_operation::<ENTRY>(image, session, Operation::Increment, block),
+        [0xC0, block] => value_operation::<ENTRY>(image, session, Operation::Decrement, block),
+        [0xC2, block] => value_operation::<ENTRY>(image, session, Operation::Restore, block),
+        [0xB0, block] => transfer::<ENTRY>(image, session, block),
         [0x50, 0x00] => {
             *session = FRESH;
             Ok(Sign::Nothing)
@@ -106,7 +155,7 @@ fn command(image: &mut [u8], session: &mut Session, frame: &[u8], reply: &mut Bl
     }
 }
 
-fn authenticate(image: &[u8], session: &mut Session, block: u8, key: Key, sent: &[u8; 6]) -> Judged {
+fn authenticate<const ENTRY: bool>(image: &[u8], session: &mut Session, block: u8, key: Key, sent: &[u8; 6]) -> Judged {
     if !has_block(image, block) {
         return Err(2);
     }
@@ -129,7 +178,7 @@ fn authenticate(image: &[u8], session: &mut Session, block: u8, key: Key, sent: 
 /// Checks 2, 3, 5, 6 and 7 of a memory command; then the key, and the trailer's row of its sector.
 /// Inlined, like `source`: a call loads the session's bytes as one word just after they were stored one by one, and waits for them.
 #[inline(always)]
-fn permitted(image: &[u8], session: &Session, block: u8, column: usize, is_value: bool) -> Result<(Key, u8), u8> {
+fn permitted<const ENTRY: bool>(image: &[u8], session: &Session, block: u8, column: usize, is_value: bool) -> Result<(Key, u8), u8> {
     if !has_block(image, block) {
         return Err(2);
     }
@@ -152,8 +201,8 @@ fn permitted(image: &[u8], session: &Session, block: u8, column: usize, is_value
     Ok((key, trailer_row))
 }
 
-fn read(image: &[u8], session: &Session, block: u8, reply: &mut BlockBytes) -> Judged {
-    let (_, trailer_row) = permitted(image, session, block, READ, false)?;
+fn read<const ENTRY: bool>(image: &[u8], session: &Session, block: u8, reply: &mut BlockBytes) -> Judged {
+    let (_, trailer_row) = permitted::<ENTRY>(image, session, block, READ, false)?;
     *reply = *bytes_of(image, block);
     if is_trailer(block) {
         reply[0..6].fill(0);
@@ -164,18 +213,18 @@ fn read(image: &[u8], session: &Session, block: u8, reply: &mut BlockBytes) -> J
     Ok(Sign::Data)
 }
 
-fn write(image: &[u8], session: &mut Session, block: u8) -> Judged {
-    permitted(image, session, block, WRITE, false)?;
+fn write<const ENTRY: bool>(image: &[u8], session: &mut Session, block: u8) -> Judged {
+    permitted::<ENTRY>(image, session, block, WRITE, false)?;
     session.stage = Stage::Write { block };
     Ok(Sign::Ack)
 }
 
-fn write_data(image: &mut [u8], session: &mut Session, block: u8, frame: &[u8]) -> Judged {
+fn write_data<const ENTRY: bool>(image: &mut [u8], session: &mut Session, block: u8, frame: &[u8]) -> Judged {
     let data: &BlockBytes = frame.try_into().map_err(|_| 1)?;
-    let (key, trailer_row) = permitted(image, session, block, WRITE, false)?;
+    let (key, trailer_row) = permitted::<ENTRY>(image, session, block, WRITE, false)?;
     let stored = bytes_of_mut(image, block);
     if is_trailer(block) {
-        write_trailer(stored, data, key, trailer_row);
+        write_trailer::<ENTRY>(stored, data, key, trailer_row);
     } else {
         *stored = *data;
     }
@@ -184,7 +233,7 @@ fn write_data(image: &mut [u8], session: &mut Session, block: u8, frame: &[u8]) 
 }
 
 /// Stores the parts that the key may write.
-fn write_trailer(stored: &mut BlockBytes, data: &BlockBytes, key: Key, trailer_row: u8) {
+fn write_trailer<const ENTRY: bool>(stored: &mut BlockBytes, data: &BlockBytes, key: Key, trailer_row: u8) {
     let row = trailer(trailer_row);
     if has(row.write_key_a, key) {
         stored[0..6].copy_from_slice(&data[0..6]);
@@ -199,24 +248,24 @@ fn write_trailer(stored: &mut BlockBytes, data: &BlockBytes, key: Key, trailer_r
 
 /// The checks of both frames of a value operation; then the source's value.
 #[inline(always)]
-fn source(image: &[u8], session: &Session, operation: Operation, block: u8) -> Result<Value, u8> {
+fn source<const ENTRY: bool>(image: &[u8], session: &Session, operation: Operation, block: u8) -> Result<Value, u8> {
     let column = match operation {
         Operation::Increment => INCREMENT,
         Operation::Decrement | Operation::Restore => DECREMENT,
     };
-    permitted(image, session, block, column, true)?;
+    permitted::<ENTRY>(image, session, block, column, true)?;
     Value::decode(bytes_of(image, block)).ok_or(8)
 }
 
-fn value_operation(image: &[u8], session: &mut Session, operation: Operation, block: u8) -> Judged {
-    source(image, session, operation, block)?;
+fn value_operation<const ENTRY: bool>(image: &[u8], session: &mut Session, operation: Operation, block: u8) -> Judged {
+    source::<ENTRY>(image, session, operation, block)?;
     session.stage = Stage::Value { operation, block };
     Ok(Sign::Ack)
 }
 
-fn operand(image: &[u8], session: &mut Session, operation: Operation, block: u8, frame: &[u8]) -> Judged {
+fn operand<const ENTRY: bool>(image: &[u8], session: &mut Session, operation: Operation, block: u8, frame: &[u8]) -> Judged {
     let operand = i32::from_le_bytes(frame.try_into().map_err(|_| 1)?);
-    let Value { number, address } = source(image, session, operation, block)?;
+    let Value { number, address } = source::<ENTRY>(image, session, operation, block)?;
     let result = match operation {
         Operation::Increment => number.checked_add(operand),
         Operation::Decrement => number.checked_sub(operand),
@@ -227,8 +276,8 @@ fn operand(image: &[u8], session: &mut Session, operation: Operation, block: u8,
     Ok(Sign::Nothing)
 }
 
-fn transfer(image: &mut [u8], session: &Session, block: u8) -> Judged {
-    permitted(image, session, block, DECREMENT, true)?;
+fn transfer<const ENTRY: bool>(image: &mut [u8], session: &Session, block: u8) -> Judged {
+    permitted::<ENTRY>(image, session, block, DECREMENT, true)?;
     let value = session.register.ok_or(9)?;
     *bytes_of_mut(image, block) = value.encode();
     Ok(Sign::Ack)

@@ -1,7 +1,8 @@
-//! The calls that are timed, counted and measured: a ride, each command alone, each refusal; on a 1K and on a 4K card.
+//! The calls that are timed, counted and measured: a ride, each command alone, each refusal, some with their checksum; on a 1K and on a 4K card.
 
 use crate::calls::Card;
-use crate::card::{Operation, Session, Stage, FRESH};
+use crate::card::{Operation, Session, Stage, FRESH, SEALED_BYTES};
+use crate::crc::seal_of;
 use crate::layout::{blocks_of, bytes_of_mut, is_trailer, trailer_of, BLOCK_BYTES};
 use crate::reader::Sent;
 use crate::record::{of_session, Record};
@@ -23,11 +24,12 @@ pub struct Case {
 
 impl Case {
     pub fn send(&self, card: &Card, image: &mut [u8]) {
-        let (mut session, mut reply) = (self.session, [0; BLOCK_BYTES]);
+        let (mut session, mut reply) = (self.session, [0; SEALED_BYTES]);
         for sent in &self.sent {
             match sent {
-                Sent::Frame(frame) => card.frame(image, &mut session, frame, &mut reply),
-                Sent::FieldReset => card.field_reset(&mut session, &mut reply),
+                Sent::Frame(frame) => card.frame(image, &mut session, frame, reply.first_chunk_mut().unwrap()),
+                Sent::Sealed(frame) => card.sealed_frame(image, &mut session, frame, &mut reply),
+                Sent::FieldReset => card.field_reset(&mut session, reply.first_chunk_mut().unwrap()),
             };
         }
         std::hint::black_box((&session, &reply));
@@ -139,6 +141,28 @@ impl Place {
         }
         cases
     }
+
+    fn sealed(&self) -> Vec<Case> {
+        let (holder, purse) = (self.holder(), self.purse);
+        let writing = Session { stage: Stage::Write { block: purse }, ..holder };
+        let mut unsealed = self.case("sealed refused 14", holder, &[]);
+        unsealed.sent.push(Sent::Sealed(vec![0x30, purse, 0, 0]));
+        let read = self.case("Read", holder, &[&[0x30, purse]]);
+        let data = self.case("Write's data", writing, &[&PURSE.encode()]);
+        let sealed = [self.ride(), read, data].into_iter().map(with_seals);
+        sealed.chain([unsealed]).collect()
+    }
+}
+
+/// The same bytes, each frame with its checksum.
+fn with_seals(mut case: Case) -> Case {
+    case.name = format!("sealed {}", case.name);
+    for sent in &mut case.sent {
+        if let Sent::Frame(frame) = sent {
+            *sent = Sent::Sealed([&frame[..], &seal_of(frame)].concat());
+        }
+    }
+    case
 }
 
 fn places() -> [Place; 2] {
@@ -160,5 +184,6 @@ pub fn all() -> Vec<Case> {
     let rides = places.iter().map(Place::ride);
     let commands = places.iter().flat_map(Place::commands);
     let refusals = places.iter().flat_map(Place::refusals);
-    rides.chain(commands).chain(refusals).collect()
+    let sealed = places.iter().flat_map(Place::sealed);
+    rides.chain(commands).chain(refusals).chain(sealed).collect()
 }

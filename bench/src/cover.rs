@@ -3,12 +3,15 @@
 use crate::layout::{bytes_of, group_of, has_block, is_image, is_trailer, sector_of, trailer_of, TRAILER_GROUP};
 use crate::record::Record;
 use crate::rights::AccessBits;
+use crate::seals;
 use std::collections::BTreeMap;
 
 /// Each thing that a full run must have met this often.
 pub const ENOUGH: u64 = 100;
 
-const NUMBERS: std::ops::RangeInclusive<u8> = 0..=12;
+const NUMBERS: [u8; 14] = [0, 1, 2, 3, 4, 5, 6, 7, 8, 9, 10, 11, 12, UNSEALED];
+/// Only a frame with a checksum gets it.
+const UNSEALED: u8 = 14;
 const FIELD_RESET: &str = "field reset";
 const HALT: &str = "Halt";
 const AUTHENTICATE: &str = "Authenticate";
@@ -40,9 +43,16 @@ impl Cover {
         let mut expect = |name: String| met.insert(name, 0);
         for number in NUMBERS {
             expect(number_name(number));
+            expect(sealed_name(&number_name(number)));
         }
         for command in ON_DATA.into_iter().chain([AUTHENTICATE, HALT, FIELD_RESET]) {
             expect(command_name(command));
+        }
+        for command in ON_DATA.into_iter().chain([AUTHENTICATE, HALT]) {
+            expect(sealed_name(&format!("{command} accepted")));
+        }
+        for way in seals::WRONG.into_iter().chain([HALT]) {
+            expect(wrong_name(way));
         }
         for row in 0..8 {
             for letter in ['A', 'B'] {
@@ -88,6 +98,22 @@ impl Cover {
         }
     }
 
+    /// The same for a frame with a checksum; `met` is then what its inner bytes are about.
+    pub fn sealed(&mut self, frame: &[u8], met: Option<Met>, number: u8) {
+        self.meet(&sealed_name(&number_name(number)));
+        match (number, seals::wrong(frame), &met) {
+            (UNSEALED, Some(way), met) => {
+                self.meet(&wrong_name(way));
+                if met.as_ref().is_some_and(|met| met.command == HALT) {
+                    self.meet(&wrong_name(HALT));
+                }
+            }
+            (0, None, Some(met)) => self.meet(&sealed_name(&format!("{} accepted", met.command))),
+            _ => (),
+        }
+        self.frame(met.filter(|_| number != UNSEALED), number);
+    }
+
     /// The thing that was met least often, of those whose name starts so.
     fn least(&self, start: &str) -> String {
         let (name, count) = self.met.iter().filter(|(name, _)| name.starts_with(start)).min_by_key(|(_, count)| **count).unwrap();
@@ -95,7 +121,7 @@ impl Cover {
     }
 
     pub fn line(&self) -> String {
-        let least = ["number", "command", "data", "trailer", "memory"].map(|start| self.least(start));
+        let least = ["number", "command", "sealed", "data", "trailer", "memory"].map(|start| self.least(start));
         format!("least met: {}", least.join("; "))
     }
 
@@ -105,7 +131,7 @@ impl Cover {
 
     pub fn print_counts(&self, start: &str) {
         for (name, count) in self.met.iter().filter(|(name, _)| name.starts_with(start)) {
-            println!("  {name:24} {count:9}");
+            println!("  {name:36} {count:9}");
         }
     }
 
@@ -120,6 +146,14 @@ fn number_name(number: u8) -> String {
 
 fn command_name(command: &str) -> String {
     format!("command {command}")
+}
+
+fn sealed_name(what: &str) -> String {
+    format!("sealed {what}")
+}
+
+fn wrong_name(way: &str) -> String {
+    format!("sealed {UNSEALED}: {way}")
 }
 
 fn row_name(table: &str, row: u8, letter: char, command: &str) -> String {

@@ -1,13 +1,14 @@
 //! The differential test: the same random calls to the library and to the Rust card, everything that comes back compared.
 
 use crate::calls::{Card, LIBRARY, RUST};
+use crate::card::SealedReply;
 use crate::cover::{self, Cover, ENOUGH};
 use crate::frames;
 use crate::images;
-use crate::layout::BlockBytes;
 use crate::random::Random;
 use crate::reader::{Reader, Sent};
 use crate::record::Record;
+use crate::seals;
 use crate::sessions;
 
 const CALLS_PER_LINE: u64 = 100_000;
@@ -22,14 +23,14 @@ const MARGIN: usize = 16;
 struct Side {
     image: Vec<u8>,
     session: Record,
-    reply: BlockBytes,
+    reply: SealedReply,
     result: u32,
 }
 
 impl Side {
     fn new(image: &[u8]) -> Side {
         let margin = [0xA5; MARGIN];
-        Side { image: [&margin, image, &margin].concat(), session: [0; 12], reply: [0; 16], result: 0 }
+        Side { image: [&margin, image, &margin].concat(), session: [0; 12], reply: [0; 18], result: 0 }
     }
 
     fn image(&self) -> &[u8] {
@@ -37,11 +38,13 @@ impl Side {
     }
 
     fn send(&mut self, card: &Card, sent: &Sent) {
-        self.reply = [0xEE; 16];
+        // What is lent to a call without checksum leaves the last two alone.
+        self.reply = [0xEE; 18];
         let end = self.image.len() - MARGIN;
         self.result = match sent {
-            Sent::Frame(frame) => card.frame(&mut self.image[MARGIN..end], &mut self.session, frame, &mut self.reply),
-            Sent::FieldReset => card.field_reset(&mut self.session, &mut self.reply),
+            Sent::Frame(frame) => card.frame(&mut self.image[MARGIN..end], &mut self.session, frame, self.reply.first_chunk_mut().unwrap()),
+            Sent::Sealed(frame) => card.sealed_frame(&mut self.image[MARGIN..end], &mut self.session, frame, &mut self.reply),
+            Sent::FieldReset => card.field_reset(&mut self.session, self.reply.first_chunk_mut().unwrap()),
         };
     }
 
@@ -56,14 +59,18 @@ struct Differ {
     library: Side,
     rust: Side,
     calls: u64,
+    /// How many of a hundred frames have a checksum.
+    sealed_share: usize,
 }
 
 /// Gives whether no difference was met (and, in a full run, whether enough was covered).
 pub fn run(seed: u64, count: u64) -> bool {
-    let mut differ = Differ { random: Random::new(seed), cover: Cover::new(), library: Side::new(&[]), rust: Side::new(&[]), calls: 0 };
+    let mut differ =
+        Differ { random: Random::new(seed), cover: Cover::new(), library: Side::new(&[]), rust: Side::new(&[]), calls: 0, sealed_share: 0 };
     while differ.calls < count {
         let image = images::any_size(&mut differ.random);
         (differ.library, differ.rust) = (Side::new(&image), Side::new(&image));
+        differ.sealed_share = differ.random.pick(&[0, 50, 100]);
         let same = if differ.random.percent(50) { differ.forged_calls() } else { differ.careless_run() };
         if !same {
             println!("difference at call {} of seed {seed}", differ.calls);
@@ -82,7 +89,7 @@ impl Differ {
             let awaited = sessions::awaited(&session);
             let frame = frames::any(&mut self.random, self.rust.image(), session[1], awaited);
             let sent = if self.random.percent(1) { Sent::FieldReset } else { Sent::Frame(frame) };
-            self.call(&sent)
+            self.call(sent)
         })
     }
 
@@ -91,12 +98,21 @@ impl Differ {
         let mut reader = Reader::new(&mut self.random, self.rust.image());
         (0..CALLS_PER_IMAGE).all(|_| {
             let sent = reader.send(&mut self.random, self.rust.image());
-            self.call(&sent)
+            self.call(sent)
         })
     }
 
+    /// A share of the frames gets a checksum.
+    fn sealed(&mut self, sent: Sent) -> Sent {
+        match sent {
+            Sent::Frame(frame) if self.random.percent(self.sealed_share) => Sent::Sealed(seals::any(&mut self.random, &frame)),
+            _ => sent,
+        }
+    }
+
     /// Gives whether both cards did the same.
-    fn call(&mut self, sent: &Sent) -> bool {
+    fn call(&mut self, sent: Sent) -> bool {
+        let sent = &self.sealed(sent);
         let (session, met) = (self.rust.session, self.met(sent));
         self.library.send(&LIBRARY, sent);
         self.rust.send(&RUST, sent);
@@ -107,6 +123,7 @@ impl Differ {
         }
         match sent {
             Sent::Frame(_) => self.cover.frame(met, self.rust.result as u8),
+            Sent::Sealed(frame) => self.cover.sealed(frame, met, self.rust.result as u8),
             Sent::FieldReset => self.cover.field_reset(),
         }
         if self.calls.is_multiple_of(CALLS_PER_LINE) {
@@ -118,6 +135,7 @@ impl Differ {
     fn met(&self, sent: &Sent) -> Option<cover::Met> {
         match sent {
             Sent::Frame(frame) => cover::met(self.rust.image(), &self.rust.session, frame),
+            Sent::Sealed(frame) => cover::met(self.rust.image(), &self.rust.session, seals::inner(frame)),
             Sent::FieldReset => None,
         }
     }
@@ -125,6 +143,7 @@ impl Differ {
     fn describe(&self, session: &Record, sent: &Sent) {
         match sent {
             Sent::Frame(frame) => println!("  frame {frame:02X?}"),
+            Sent::Sealed(frame) => println!("  sealed frame {frame:02X?}"),
             Sent::FieldReset => println!("  field reset"),
         }
         println!("  image of {} bytes, session {session:02X?}", self.rust.image().len());
@@ -141,6 +160,7 @@ impl Differ {
         println!("seed {seed}: {} calls, no difference", self.calls);
         self.cover.print_counts("number");
         self.cover.print_counts("command");
+        self.cover.print_counts("sealed");
         self.cover.print_counts("memory");
         let thin = self.cover.thin();
         println!("{} of {} things met at least {ENOUGH} times", self.cover.things() - thin.len(), self.cover.things());

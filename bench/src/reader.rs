@@ -12,6 +12,8 @@ pub struct Reader {
 
 pub enum Sent {
     Frame(Vec<u8>),
+    /// With two bytes behind it for its checksum.
+    Sealed(Vec<u8>),
     FieldReset,
 }
 

@@ -82,7 +82,7 @@ pub fn written<'a>(image: &[u8], events: impl IntoIterator<Item = &'a Sent, Into
     script.extend((events.len() as u16).to_le_bytes());
     for event in events {
         let bytes = match event {
-            Sent::Frame(frame) => &frame[..frame.len().min(LONGEST_EVENT)],
+            Sent::Frame(frame) | Sent::Sealed(frame) => &frame[..frame.len().min(LONGEST_EVENT)],
             Sent::FieldReset => &[],
         };
         script.push(bytes.len() as u8);

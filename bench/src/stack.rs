@@ -1,6 +1,7 @@
 //! Bytes of stack that a call uses: it runs on a stack of its own, painted, and the lowest byte that changed says how deep it went.
 
 use crate::calls::{Card, LIBRARY, PRINTOUT_BYTES, RUST};
+use crate::card::SEALED_BYTES;
 use crate::cases::{self, Case};
 use crate::reader::Sent;
 use crate::speed::RIDES;
@@ -50,17 +51,21 @@ fn of_case(stack: &mut Stack, card: &Card, case: &Case) -> Option<usize> {
     let (start, sent) = case.only()?;
     let mut image = case.image.clone();
     Some(depth(stack, |stack| {
-        let (mut session, mut reply) = (start, [0u8; 16]);
+        let (mut session, mut reply) = (start, [0u8; SEALED_BYTES]);
         let (session, reply) = (session.as_mut_ptr() as usize, reply.as_mut_ptr() as usize);
         let (function, arguments) = match sent {
-            Sent::Frame(frame) => {
-                (card.frame_call as *const (), [image.as_mut_ptr() as usize, image.len(), session, frame.as_ptr() as usize, frame.len(), reply])
-            }
+            Sent::Frame(frame) => (card.frame_call as *const (), of_frame(&mut image, session, frame, reply)),
+            Sent::Sealed(frame) => (card.sealed_frame_call as *const (), of_frame(&mut image, session, frame, reply)),
             Sent::FieldReset => (card.field_reset_call as *const (), [session, reply, 0, 0, 0, 0]),
         };
         // SAFETY: the arguments are those of include/tirlwheel.h, with true lengths.
         unsafe { call_on(stack, function, arguments) }
     }))
+}
+
+/// The arguments of both calls for a frame.
+fn of_frame(image: &mut [u8], session: usize, frame: &[u8], reply: usize) -> [usize; 6] {
+    [image.as_mut_ptr() as usize, image.len(), session, frame.as_ptr() as usize, frame.len(), reply]
 }
 
 fn of_play(stack: &mut Stack, card: &Card, script: &[u8]) -> usize {

@@ -15,6 +15,14 @@ mod ffi {
             frame_len: usize,
             reply: *mut [u8; 16],
         ) -> u32;
+        pub fn tirlwheel_sealed_frame(
+            image: *mut u8,
+            image_len: usize,
+            session: *mut [u8; 12],
+            frame: *const u8,
+            frame_len: usize,
+            reply: *mut [u8; 18],
+        ) -> u32;
         pub fn tirlwheel_field_reset(session: *mut [u8; 12], reply: *mut [u8; 16]) -> u32;
         pub fn tirlwheel_play(
             script: *const u8,
@@ -46,19 +54,30 @@ pub struct Answer {
     pub reply: [u8; 16],
 }
 
+/// As [`Answer`], for a frame with its checksum: the reply of a Read has its own behind the sixteen bytes.
+#[derive(Clone, Copy, Debug, PartialEq, Eq)]
+pub struct SealedAnswer {
+    pub number: u8,
+    pub sign: Sign,
+    pub reply: [u8; 18],
+}
+
 /// Room for any printout.
 pub type Printout = [u8; 65536];
 
-fn answer(result: u32, reply: [u8; 16]) -> Answer {
-    let sign = match result >> 8 {
+fn sign(result: u32) -> Sign {
+    match result >> 8 {
         0 => Sign::Ack,
         1 => Sign::Nak,
         2 => Sign::Data,
         _ => Sign::Nothing,
-    };
+    }
+}
+
+fn answer(result: u32, reply: [u8; 16]) -> Answer {
     Answer {
         number: result as u8,
-        sign,
+        sign: sign(result),
         reply,
     }
 }
@@ -82,6 +101,27 @@ impl Session {
             )
         };
         answer(result, reply)
+    }
+
+    /// One frame with its checksum behind it, as a reader chip hands it over; else as [`Session::frame`], and both may be sent in turn.
+    pub fn sealed_frame(&mut self, image: &mut [u8], frame: &[u8]) -> SealedAnswer {
+        let mut reply = [0; 18];
+        // SAFETY: as for a frame.
+        let result = unsafe {
+            ffi::tirlwheel_sealed_frame(
+                image.as_mut_ptr(),
+                image.len(),
+                &mut self.0,
+                frame.as_ptr(),
+                frame.len(),
+                &mut reply,
+            )
+        };
+        SealedAnswer {
+            number: result as u8,
+            sign: sign(result),
+            reply,
+        }
     }
 
     /// The reader's field went away and came back.

@@ -9,7 +9,7 @@ use Rattle.session.specs.declared.Session.{Session}
 use Rattle.judge.specs.Judge.{judgeOf}
 use Rattle.judge.specs.declared.Act.{Act}
 use Rattle.card.specs.Trailer.{zeros}
-use Rattle.card.specs.Effects.{numberOf, signOf, replyOf, sessionOf, imageOf}
+use Rattle.card.specs.Effects.{numberOf, refusedSign, signOf, replyOf, sessionOf, imageOf}
 use Rattle.card.specs.declared.Sign.the-variants.{Nothing}
 use Rattle.card.specs.declared.Answer.{Answer}
 
@@ -17,6 +17,10 @@ use Rattle.card.specs.declared.Answer.{Answer}
 unfoldable pub answered : List ℕ → Session → Act → Answer
 answered image s act =
     record { number = numberOf act; sign = signOf act; reply = replyOf image act; session = sessionOf s act }
+
+-- the answer of a refusal: its number and its sign, the session fresh
+abbrev pub refusalOf : ℕ → Answer
+refusalOf n = record { number = n; sign = refusedSign n; reply = zeros; session = freshOf }
 
 -- the answer to a frame, and the image after it
 unfoldable pub answerOf : List ℕ → Session → List ℕ → Answer

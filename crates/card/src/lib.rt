@@ -7,6 +7,7 @@ ghost use Rattle.card.specs.Step.{answerOf, imageAfter, resetOf, noSessi
 mod outcome;
 mod trailer;
 
+pub use outcome::refusal;
 use session::Session;
 
 // What goes on the air.
@@ -65,8 +66,8 @@ pub fn no_session(bytes: usize) -> Answer
     ensures { λ r. ⌜ r ≡ noSessionOf bytes ⌝ }
 {
     if layout::sectors_of(bytes) == 0 {
-        outcome::refused(11)
+        refusal(11)
     } else {
-        outcome::refused(12)
+        refusal(12)
     }
 }

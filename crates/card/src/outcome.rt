@@ -1,12 +1,11 @@
 // What an act does: its answer, and what it does to the image.
 ghost use mathlib.Core.Path.{_≡_};
-ghost use Rattle.session.specs.Session.{freshOf};
 ghost use Rattle.session.specs.declared.Auth.the-variants.{As};
 ghost use Rattle.session.specs.declared.Stage.the-variants.{Idle};
 ghost use Rattle.session.specs.declared.Register.the-variants.{Empty, Full};
 ghost use Rattle.card.specs.Trailer.{zeros};
 ghost use Rattle.card.specs.Effects.{refusedSign, imageOf};
-ghost use Rattle.card.specs.Step.{answered};
+ghost use Rattle.card.specs.Step.{answered, refusalOf};
 ghost use Rattle.card.specs.declared.Sign.the-variants.{Ack, Nothing};
 use crate::Answer;
 use crate::Sign;
@@ -28,8 +27,9 @@ fn refused_sign(n: u8) -> Sign
     Sign::Nak
 }
 
-pub(crate) fn refused(n: u8) -> Answer
-    ensures { λ r. ⌜ r ≡ record { number = n; sign = refusedSign n; reply = zeros; session = freshOf } ⌝ }
+// The answer of a refusal.
+pub fn refusal(n: u8) -> Answer
+    ensures { λ r. ⌜ r ≡ refusalOf n ⌝ }
 {
     let sign = refused_sign(n);
     let session = session::fresh();
@@ -104,7 +104,7 @@ pub(crate) fn enact(image: &mut [u8], s: Session, act: Act, frame: &[u8]) -> Ans
 {
     let auth = s.auth;
     match act {
-        Act::Refused(n) => refused(n),
+        Act::Refused(n) => refusal(n),
         Act::Authenticated(t, l) => ack(logged_in(t, l)),
         Act::Shown(b) => accepted(Sign::Data, memory::content(&image[..], b), s),
         Act::TrailerShown(b, m) => {

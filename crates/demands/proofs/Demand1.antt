@@ -32,7 +32,7 @@ use Rattle.card.specs.Step.{answered, answerOf, imageAfter}
 use Rattle.demands.specs.Demand1.{Row, row, tableFor, table, Met, here, below, Demand1}
 
 -- the act that a table of rows leaves
-abbrev rule : List Row → Act → Act
+abbrev pub rule : List Row → Act → Act
 rule [] act = act
 rule (r ∷ rows) act = cond (r .applies) (Refused (r .number)) (rule rows act)
 
@@ -48,11 +48,11 @@ by-rows (check n true ∷ cs) act = refl
 by-rows (check n false ∷ cs) act = by-rows cs act
 
 -- a row that is met decides, and without one the number is that of the act
-met-rule : (r : Row) (rows : List Row) (act : Act) → Met r rows → rule rows act ≡ Refused (r .number)
+pub met-rule : (r : Row) (rows : List Row) (act : Act) → Met r rows → rule rows act ≡ Refused (r .number)
 met-rule r rows act (here rest e) = rw e
 met-rule r rows act (below above rest e m) = rw e (met-rule r rest act m)
 
-none-else : (rows : List Row) (act : Act) → numberOf act ≡ 0 → (numberOf (rule rows act) ≡ 0 → ⊥) → (r : Row) × Met r rows × (numberOf (rule rows act) ≡ r .number)
+pub none-else : (rows : List Row) (act : Act) → numberOf act ≡ 0 → (numberOf (rule rows act) ≡ 0 → ⊥) → (r : Row) × Met r rows × (numberOf (rule rows act) ≡ r .number)
 unfolding numberOf
 none-else [] act z h = absurd (h z)
 none-else (q ∷ rows) act z h = go (q .applies) refl h (none-else rows act z)
@@ -64,17 +64,17 @@ none-else (q ∷ rows) act z h = go (q .applies) refl h (none-else rows act z)
     go false e k f = let m = f k in (m .0, below q rows e (m .1), m .2)
 
 -- the signs of a table are the card's
-abbrev Signed : List Row → Type 0
+abbrev pub Signed : List Row → Type 0
 Signed [] = Unit {0}
 Signed (r ∷ rows) = (refusedSign (r .number) ≡ r .air) × Signed rows
 
-met-sign : (r : Row) (rows : List Row) → Signed rows → Met r rows → refusedSign (r .number) ≡ r .air
+pub met-sign : (r : Row) (rows : List Row) → Signed rows → Met r rows → refusedSign (r .number) ≡ r .air
 met-sign r rows p (here rest e) = p .0
 met-sign r rows p (below above rest e m) = met-sign r rest (p .1) m
 
 module _ (image : List ℕ) (s : Session) (frame : List ℕ) where
   -- an accepted act that, once every row is passed, is what the judgement leaves
-  abbrev Follows : Command → Type 0
+  abbrev pub Follows : Command → Type 0
   Follows c = (act : Act) × (numberOf act ≡ 0) × (ruled (first (frameChecks image s)) (commandedOf image s c frame) ≡ rule (tableFor image s frame c) act)
 
   -- two lists of checks, one after the other
@@ -115,7 +115,7 @@ module _ (image : List ℕ) (s : Session) (frame : List ℕ) where
         part false = refl
     stored-0 false p m = refl
 
-  follows : (c : Command) → Follows c
+  pub follows : (c : Command) → Follows c
   unfolding numberOf commandedOf frameChecks checksOf authenticateChecks memoryChecks grantOf doneOf first ruled
   follows Unknown = (Halted, refl, by-rows (frameChecks image s) _)
   follows (Authenticate b l) = (Authenticated (sectorOf b) l, refl, both (authenticateChecks image l b frame) _)
@@ -127,7 +127,7 @@ module _ (image : List ℕ) (s : Session) (frame : List ℕ) where
   follows (Transfer b) = moved b
   follows Halt = (Halted, refl, by-rows (frameChecks image s) _)
 
-  signs : (c : Command) → Signed (tableFor image s frame c)
+  pub signs : (c : Command) → Signed (tableFor image s frame c)
   unfolding refusedSign
   signs c = (refl, (refl, (refl, (refl, (refl, (refl, (refl, (refl, (refl, (refl, (refl, (refl, tt))))))))))))
 

@@ -2,6 +2,7 @@ pub mod Starred
 pub mod Demand1
 pub mod Demand2
 pub mod Demand3
+pub mod Sealed
 pub mod Example
 pub mod Exact
 pub mod OneLayout
@@ -12,6 +13,8 @@ pub mod OneSession
 pub mod OneFrame
 pub mod OneJudge
 pub mod OneCard
+pub mod OneChecksum
+pub mod OneSealed
 pub mod OneScript
 pub mod OneReader
 pub mod OnePlay

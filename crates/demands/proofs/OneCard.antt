@@ -11,6 +11,7 @@ use Rattle.card.specs.declared.Answer.{Answer}
 use Rattle.card.proofs.step.Reads as step-contract
 use Rattle.card.proofs.field_reset.Reads as field-reset-contract
 use Rattle.card.proofs.no_session.Reads as no-session-contract
+use Rattle.card.proofs.refusal.Reads as refusal-contract
 use Rattle.card.proofs.sign_code.Reads as sign-code-contract
 use Rattle.demands.specs.One.{OneResult}
 use Rattle.demands.proofs.Exact.{exact}
@@ -25,6 +26,9 @@ step κ κ′ image s frame r r′ last last′ p q = (p .0 ∙ sym (q .0), p .1
 
 pub field-reset : OneResult (λ r. field-reset-contract.Post tt tt r tt)
 field-reset = exact
+
+pub refusal : (n : ℕ) → OneResult (λ r. refusal-contract.Post tt (n, tt) r (n, tt))
+refusal n = exact
 
 pub no-session : (bytes : ℕ) → OneResult (λ r. no-session-contract.Post tt (bytes, tt) r (bytes, tt))
 no-session bytes = exact

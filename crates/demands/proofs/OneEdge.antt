@@ -1,4 +1,4 @@
--- One result for each exported function of `edge` and `printout`, on the contract that its source states: the number and every byte of what was lent.
+-- One result for each exported function of `edge`, `chip` and `printout`, on the contract that its source states: the number and every byte of what was lent.
 -- Assumes nothing.
 use mathlib.Core.Path.{_≡_, sym, _∙_}
 use mathlib.Core.List.{List}
@@ -7,6 +7,7 @@ use base.Fml.{Lft}
 use denote.Ref.{RefT, at-last}
 use Rattle.edge.proofs.tirlwheel_frame.Reads as frame-contract
 use Rattle.edge.proofs.tirlwheel_field_reset.Reads as reset-contract
+use Rattle.chip.proofs.tirlwheel_sealed_frame.Reads as sealed-contract
 use Rattle.printout.proofs.tirlwheel_play.Reads as play-contract
 use Rattle.edge.proofs.tirlwheel_version.Reads as version-contract
 use Rattle.demands.specs.One.{OneResult}
@@ -21,6 +22,16 @@ module _ (κ₀ κ₁ κ₂ κ₃ : Lft) (image session frame reply : RefT (List
 
   pub tirlwheel-frame : (r r′ : ℕ) (i i′ s s′ p p′ : List ℕ) → FrameMeets r i s p → FrameMeets r′ i′ s′ p′ → (r ≡ r′) × (i ≡ i′) × (s ≡ s′) × (p ≡ p′)
   tirlwheel-frame r r′ i i′ s s′ p p′ m n =
+      (m .0 ∙ sym (n .0), m .1 .1 .1 ∙ sym (n .1 .1 .1), m .1 .0 ∙ sym (n .1 .0), m .1 .1 .0 ∙ sym (n .1 .1 .0))
+
+  -- the same with a checksum
+  abbrev SealedMeets : ℕ → List ℕ → List ℕ → List ℕ → Type 0
+  SealedMeets r i s p =
+      sealed-contract.Post (κ₀, (κ₁, (κ₂, (κ₃, tt)))) (image, (session, (frame, (reply, tt)))) r
+      (at-last image i, (at-last session s, (frame, (at-last reply p, tt))))
+
+  pub tirlwheel-sealed-frame : (r r′ : ℕ) (i i′ s s′ p p′ : List ℕ) → SealedMeets r i s p → SealedMeets r′ i′ s′ p′ → (r ≡ r′) × (i ≡ i′) × (s ≡ s′) × (p ≡ p′)
+  tirlwheel-sealed-frame r r′ i i′ s s′ p p′ m n =
       (m .0 ∙ sym (n .0), m .1 .1 .1 ∙ sym (n .1 .1 .1), m .1 .0 ∙ sym (n .1 .0), m .1 .1 .0 ∙ sym (n .1 .1 .0))
 
 module _ (κ₀ κ₁ : Lft) (session reply : RefT (List ℕ)) where

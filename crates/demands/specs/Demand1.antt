@@ -63,12 +63,10 @@ abbrev pub isOutside : Total → Bool
 isOutside (Fits v) = false
 isOutside Outside = true
 
--- the table, top to bottom, for a frame that is read as the command c
-abbrev pub tableFor : List ℕ → Session → List ℕ → Command → List Row
-tableFor image s frame c =
-    row 11 Nothing (noCard image)
-    ∷ row 12 Nothing (incoherent image s)
-    ∷ row 1 Nothing (concerns true (λ b l. false) (λ o b. false) c)
+-- the table from 1 on, top to bottom, for a frame that is read as the command c
+abbrev pub commandRows : List ℕ → Session → List ℕ → Command → List Row
+commandRows image s frame c =
+    row 1 Nothing (concerns true (λ b l. false) (λ o b. false) c)
     ∷ row 2 Nak (concerns false (λ b l. noBlock image b) (λ o b. noBlock image b) c)
     ∷ row 3 Nak (concerns false (λ b l. false) (λ o b. otherSector (s .auth) b) c)
     ∷ row 5 Nak (concerns false (λ b l. isBlocked (accessOf image b)) (λ o b. isBlocked (accessOf image b)) c)
@@ -79,6 +77,10 @@ tableFor image s frame c =
     ∷ row 9 Nak (among (λ b. false) (λ b k. false) (isEmpty (s .register)) c)
     ∷ row 10 Nak (among (λ b. false) (λ b k. isOutside (totalFor k (bitsIn (contentOf image b)) (bitsIn frame))) false c)
     ∷ []
+
+-- and from the top, where the image and the session are judged
+abbrev pub tableFor : List ℕ → Session → List ℕ → Command → List Row
+tableFor image s frame c = row 11 Nothing (noCard image) ∷ row 12 Nothing (incoherent image s) ∷ commandRows image s frame c
 
 abbrev pub table : List ℕ → Session → List ℕ → List Row
 table image s frame = tableFor image s frame (commandOf (s .stage) frame)

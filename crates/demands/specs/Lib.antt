@@ -3,4 +3,5 @@ pub mod One
 pub mod Demand1
 pub mod Demand2
 pub mod Demand3
+pub mod Sealed
 pub mod Example

@@ -1,6 +1,7 @@
-// Plays the figures of another implementation against the crates: for each file how many of its lines agree, of how many.
+// Plays the figures of other implementations against the crates: for each file how many of its lines agree, of how many.
 mod bits;
 mod blocks;
+mod checksums;
 mod line;
 mod play;
 mod rights;
@@ -25,4 +26,5 @@ fn main() {
     );
     play(b"value_blocks", b"value_blocks.txt", Figures::ValueBlocks);
     play(b"value_format", b"value_format.txt", Figures::ValueFormat);
+    play(b"checksums", b"checksums.txt", Figures::Checksums);
 }

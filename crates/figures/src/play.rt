@@ -3,6 +3,7 @@ ghost use Prim.Native.Nat.{_≤_, _<_};
 ghost use Rattle.io.specs.Counts.{Counts};
 use crate::bits;
 use crate::blocks;
+use crate::checksums;
 use crate::line;
 use crate::rights;
 use crate::values;
@@ -17,6 +18,7 @@ pub(crate) enum Figures {
     RightsTrailer,
     ValueBlocks,
     ValueFormat,
+    Checksums,
 }
 
 // How many lines agree, of how many.
@@ -37,6 +39,7 @@ fn fields_of(figures: Figures) -> usize
         Figures::RightsTrailer => 8,
         Figures::ValueBlocks => 21,
         Figures::ValueFormat => 22,
+        Figures::Checksums => 19,
     }
 }
 
@@ -50,6 +53,7 @@ fn agrees(figures: Figures, text: &[u8]) -> bool {
         Figures::RightsTrailer => rights::agrees_for_trailer(text),
         Figures::ValueBlocks => values::agrees(text),
         Figures::ValueFormat => values::agrees_in_form(text),
+        Figures::Checksums => checksums::agrees(text),
     }
 }
 

@@ -9,8 +9,8 @@ use Rattle.card.proofs.outcome.enact.Tie as tie
 enum-known-act : tie.Need-enum-known-act
 enum-known-act c = search needs
 
-refused-requires : tie.Need-refused-requires
-refused-requires c κs = search needs
+refusal-requires : tie.Need-refusal-requires
+refusal-requires c κs = search needs
 
 enum-known-act-2 : tie.Need-enum-known-act-2
 enum-known-act-2 c = search needs
@@ -128,7 +128,7 @@ silent-requires-2 c κs = search needs
 
 returns : tie.Need-returns
 unfolding answered numberOf signOf replyOf sessionOf imageOf
-returns c = (c .refused .ensures ∙ rw (c .before .before .act .given .1), rw (c .before .before .act .given .1))
+returns c = (c .refusal .ensures ∙ rw (c .before .before .act .given .1), rw (c .before .before .act .given .1))
 
 returns-2 : tie.Need-returns-2
 unfolding answered numberOf signOf replyOf sessionOf imageOf
@@ -190,7 +190,7 @@ enact-spec =
     tie.close
     (tie.spec
     enum-known-act
-    refused-requires
+    refusal-requires
     enum-known-act-2
     logged-in-requires
     ack-requires

@@ -1,0 +1,65 @@
+//! Frames with a checksum behind them, right or wrong in each way that a card must tell from right.
+
+use crate::crc::seal_of;
+use crate::random::Random;
+
+/// A bare frame with its checksum, in most a right one.
+pub fn any(random: &mut Random, frame: &[u8]) -> Vec<u8> {
+    let seal = seal_of(frame);
+    let mut sealed = [frame, &seal].concat();
+    match random.below(40) {
+        0 => flip(random, &mut sealed),
+        1 => sealed.swap(frame.len(), frame.len() + 1),
+        2 => sealed.truncate(frame.len()),
+        3 => sealed.truncate(frame.len() + 1),
+        4 => sealed[frame.len()..].copy_from_slice(&random.bytes::<2>()),
+        5 => sealed = short(random),
+        _ => (),
+    }
+    sealed
+}
+
+/// One bit of the frame or of its checksum, each half of the time: a frame may be much longer.
+fn flip(random: &mut Random, sealed: &mut [u8]) {
+    let from = if random.percent(50) { 0 } else { sealed.len() - 2 };
+    let at = from + random.below(sealed.len() - from);
+    sealed[at] ^= 1 << random.below(8);
+}
+
+/// Nothing, or one or two bytes, among them the checksum of nothing.
+fn short(random: &mut Random) -> Vec<u8> {
+    match random.below(4) {
+        0 => vec![],
+        1 => vec![random.byte()],
+        2 => vec![0x63, 0x63],
+        _ => random.bytes::<2>().to_vec(),
+    }
+}
+
+/// The ways in which a frame gets 14.
+pub const WRONG: [&str; 7] = ["empty", "one byte", "63 63", "two bytes", "bytes exchanged", "one bit of it", "another"];
+
+/// The way in which this one's checksum is wrong, or None where it is right.
+pub fn wrong(sealed: &[u8]) -> Option<&'static str> {
+    match sealed {
+        [] => return Some("empty"),
+        [_] => return Some("one byte"),
+        [0x63, 0x63] => return Some("63 63"),
+        [_, _] => return Some("two bytes"),
+        _ => (),
+    }
+    let (bytes, sent) = sealed.split_last_chunk::<2>()?;
+    let [low, high] = seal_of(bytes);
+    let bits = (sent[0] ^ low).count_ones() + (sent[1] ^ high).count_ones();
+    match bits {
+        0 => None,
+        1 => Some("one bit of it"),
+        _ if *sent == [high, low] => Some("bytes exchanged"),
+        _ => Some("another"),
+    }
+}
+
+/// The bytes before the checksum, which the card judges where it is right.
+pub fn inner(sealed: &[u8]) -> &[u8] {
+    &sealed[..sealed.len().saturating_sub(2)]
+}

@@ -1,0 +1,4 @@
+pub mod Xor
+pub mod Linear
+pub mod Turn
+pub mod Laws
