@@ -75,6 +75,7 @@ static int second(session_t *s, int size, const uint8_t *f, int n, char *sign) {
         if ((r = check(s, size, b, s->kind == 0xC1 ? 2 : 3))) return r;
         if (!is_value(p)) return 8;
         int64_t v = number(p), o = number(f), sum = s->kind == 0xC1 ? v + o : s->kind == 0xC0 ? v - o : v;
+        if (s->kind != 0xC2 && o < 0) return 13;
         if (sum < INT32_MIN || sum > INT32_MAX) return 10;
         s->full = 1, s->value = (int32_t)sum, s->address = p[12];
         *sign = '-';

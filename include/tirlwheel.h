@@ -49,6 +49,7 @@ extern "C" {
  *    7  the key has not the right                                                                           NAK
  *    8  the source is not a value block                                                                     NAK
  *    9  Transfer with an empty register                                                                     NAK
+ *   13  the operand of an increment or a decrement is below zero                                            NAK
  *   10  the result of a value operation is outside -2,147,483,648 to 2,147,483,647                          NAK
  */
 

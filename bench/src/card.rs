@@ -266,6 +266,9 @@ fn value_operation<const ENTRY: bool>(image: &[u8], session: &mut Session, opera
 fn operand<const ENTRY: bool>(image: &[u8], session: &mut Session, operation: Operation, block: u8, frame: &[u8]) -> Judged {
     let operand = i32::from_le_bytes(frame.try_into().map_err(|_| 1)?);
     let Value { number, address } = source::<ENTRY>(image, session, operation, block)?;
+    if operand < 0 && operation != Operation::Restore {
+        return Err(13);
+    }
     let result = match operation {
         Operation::Increment => number.checked_add(operand),
         Operation::Decrement => number.checked_sub(operand),

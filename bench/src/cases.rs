@@ -131,6 +131,7 @@ impl Place {
             self.case("refused 7", with_readable_b, &[&[0x30, purse]]),
             self.case("refused 8", holder, &[&[0xC0, self.plain]]),
             self.case("refused 9", Session { register: None, ..holder }, &[&[0xB0, purse]]),
+            self.case("refused 13", over, &[&[255, 255, 255, 255]]),
             self.case("refused 10", over, &[&[1, 0, 0, 0]]),
         ];
         if self.image.len() == 1024 {

@@ -9,7 +9,7 @@ use std::collections::BTreeMap;
 /// Each thing that a full run must have met this often.
 pub const ENOUGH: u64 = 100;
 
-const NUMBERS: [u8; 14] = [0, 1, 2, 3, 4, 5, 6, 7, 8, 9, 10, 11, 12, UNSEALED];
+const NUMBERS: std::ops::RangeInclusive<u8> = 0..=UNSEALED;
 /// Only a frame with a checksum gets it.
 const UNSEALED: u8 = 14;
 const FIELD_RESET: &str = "field reset";
@@ -92,7 +92,7 @@ impl Cover {
             self.meet(CARELESS);
         }
         self.after_refused_authenticate = authenticate && number != 0;
-        let rights_judged = if authenticate { number == 0 } else { matches!(number, 0 | 7..=10) };
+        let rights_judged = if authenticate { number == 0 } else { matches!(number, 0 | 7..=10 | 13) };
         if let (Some(row), true) = (met.row, rights_judged) {
             self.meet(&row);
         }

@@ -11,7 +11,7 @@ use Rattle.access.specs.declared.rights.Operation.the-variants as column
 use Rattle.access.specs.declared.rights.Parts.{Parts}
 use Rattle.value.specs.Block.{bitsIn, addressIn}
 use Rattle.value.specs.declared.sum.Total.{Total}
-use Rattle.value.specs.declared.sum.Total.the-variants.{Fits, Outside}
+use Rattle.value.specs.declared.sum.Total.the-variants.{Fits, Negative, Outside}
 use Rattle.session.specs.Session.{isEmpty}
 use Rattle.session.specs.declared.Kind.{Kind}
 use Rattle.session.specs.declared.Register.{Register}
@@ -85,6 +85,7 @@ module _ (image : List ℕ) (s : Session) (frame : List ℕ) where
     applied : (k : Kind) (t : Total) → totalFor k (bitsIn (contentOf image b)) (bitsIn frame) ≡ t → Follows (Apply b k)
     unfolding numberOf commandedOf frameChecks checksOf memoryChecks doneOf appliedOf loadOf
     applied k (Fits v) e = (Loaded v (addressIn (contentOf image b)), refl, rw e (both (checksOf image s (Apply b k) frame) _))
+    applied k Negative e = (Halted, refl, rw e (both (checksOf image s (Apply b k) frame) _))
     applied k Outside e = (Halted, refl, rw e (both (checksOf image s (Apply b k) frame) _))
 
     -- past 9 the register is full
@@ -129,7 +130,7 @@ module _ (image : List ℕ) (s : Session) (frame : List ℕ) where
 
   pub signs : (c : Command) → Signed (tableFor image s frame c)
   unfolding refusedSign
-  signs c = (refl, (refl, (refl, (refl, (refl, (refl, (refl, (refl, (refl, (refl, (refl, (refl, tt))))))))))))
+  signs c = (refl, (refl, (refl, (refl, (refl, (refl, (refl, (refl, (refl, (refl, (refl, (refl, (refl, tt)))))))))))))
 
   pub demand-1 : Demand1 image s frame
   unfolding answerOf answered imageAfter judgeOf numberOf signOf replyOf sessionOf imageOf

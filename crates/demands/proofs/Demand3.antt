@@ -17,7 +17,7 @@ use Rattle.value.specs.Block.{encodeOf, decodeOf, bitsIn, addressIn}
 use Rattle.value.specs.declared.block.Decoded.the-variants.{Value}
 use Rattle.value.specs.declared.sum.Total.the-variants.{Fits}
 use Rattle.value.proofs.Blocks.{and-left, decode-encode, decode-small, encode-length, read-value}
-use Rattle.value.proofs.Sums.{total-back}
+use Rattle.value.proofs.Sums.{ruled-back}
 use Rattle.session.specs.Session.{freshOf}
 use Rattle.session.specs.declared.Kind.{Kind}
 use Rattle.session.specs.declared.Kind.the-variants.{Increment, Decrement, Restore}
@@ -47,8 +47,8 @@ full-value x y a c e = (cc, cc)
 -- what a value operation makes of a value, in whole numbers
 result : (k : Kind) (w x : ℕ) (frame : List ℕ) → w < 4294967296 → totalFor k w (bitsIn frame) ≡ Fits x → (signed x ≡ signed w +ℤ changeOf k frame) × (x < 4294967296)
 unfolding totalFor
-result Increment w x frame h e = total-back _ x e
-result Decrement w x frame h e = total-back _ x e
+result Increment w x frame h e = let b = ruled-back _ _ x e in (b .1, b .2)
+result Decrement w x frame h e = let b = ruled-back _ _ x e in (b .1, b .2)
 result Restore w x frame h e = let q : w ≡ x = cc in (ap signed (sym q) ∙ sym (+ℤ-idr (signed w)), rw q at h)
 
 not-true : (x y : Bool) → (x && not y) ≡ true → y ≡ false

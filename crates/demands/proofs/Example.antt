@@ -6,7 +6,7 @@ use Rattle.memory.specs.Memory.{sixteenOf, contentOf, storeOf}
 use Rattle.access.specs.Bits.{accessBytesOf, wellFormed, bitOf, groupBits, bitsOf}
 use Rattle.access.specs.Rights.{dataTable, trailerTable, dataRow, trailerRow, allowsOf, keysFor, mayOf, writableOf, readableOf, muteOf}
 use Rattle.value.specs.Block.{encodeOf, decodeOf, agreeing}
-use Rattle.value.specs.Sum.{totalOf}
+use Rattle.value.specs.Sum.{totalOf, isNegative, ruledOf}
 use Rattle.session.specs.Session.{coherentOf, inSector}
 use Rattle.frame.specs.Command.{byteIn, eightOf, twoOf, firstOf, commandOf}
 use Rattle.judge.specs.First.{first, ruled}
@@ -20,5 +20,5 @@ use Rattle.demands.specs.Demand3.{actOf, booksAfter}
 use Rattle.demands.specs.Example.{purseCard, events, NotEmpty}
 
 pub not-empty : NotEmpty
-unfolding sectorsOf blocksIn blocksOf hasSector hasBlock sectorOf trailerOf isTrailer groupAt groupOf sixteenOf contentOf storeOf accessBytesOf wellFormed bitOf groupBits bitsOf dataTable trailerTable dataRow trailerRow allowsOf keysFor mayOf writableOf readableOf muteOf encodeOf decodeOf agreeing totalOf coherentOf inSector byteIn eightOf twoOf firstOf commandOf first ruled noCard incoherent noBlock otherSector isBlocked isKey wrongKey isForbidden trailerRight rightOf hasRight noRight noValue kindColumn memoryChecks checksOf authenticateChecks frameChecks writableBy trailerGrant grantOf totalFor loadOf appliedOf moveOf shownAs storedAs doneOf commandedOf judgeOf numberOf refusedSign signOf replyOf sessionOf imageOf answered answerOf imageAfter eventAnswer eventImage answersOf runImage actOf booksAfter purseCard events
+unfolding sectorsOf blocksIn blocksOf hasSector hasBlock sectorOf trailerOf isTrailer groupAt groupOf sixteenOf contentOf storeOf accessBytesOf wellFormed bitOf groupBits bitsOf dataTable trailerTable dataRow trailerRow allowsOf keysFor mayOf writableOf readableOf muteOf encodeOf decodeOf agreeing totalOf isNegative ruledOf coherentOf inSector byteIn eightOf twoOf firstOf commandOf first ruled noCard incoherent noBlock otherSector isBlocked isKey wrongKey isForbidden trailerRight rightOf hasRight noRight noValue kindColumn memoryChecks checksOf authenticateChecks frameChecks writableBy trailerGrant grantOf totalFor loadOf appliedOf moveOf shownAs storedAs doneOf commandedOf judgeOf numberOf refusedSign signOf replyOf sessionOf imageOf answered answerOf imageAfter eventAnswer eventImage answersOf runImage actOf booksAfter purseCard events
 not-empty = record { begins = refl; fair = refl; numbers = refl; counted = refl; ends = refl; written = refl }

@@ -12,7 +12,7 @@ use Rattle.access.specs.declared.rights.Operation.{Operation}
 use Rattle.access.specs.declared.rights.Operation.the-variants as column
 use Rattle.value.specs.Block.{bitsIn}
 use Rattle.value.specs.declared.sum.Total.{Total}
-use Rattle.value.specs.declared.sum.Total.the-variants.{Fits, Outside}
+use Rattle.value.specs.declared.sum.Total.the-variants.{Fits, Negative, Outside}
 use Rattle.session.specs.Session.{freshOf, isEmpty}
 use Rattle.session.specs.declared.Kind.{Kind}
 use Rattle.session.specs.declared.Session.{Session}
@@ -59,8 +59,15 @@ among first second transfer (Apply b k) = second b k
 among first second transfer (Transfer b) = transfer
 among first second transfer Halt = false
 
+-- how a value operation fails: by its operand, or by its result
+abbrev pub isNegative : Total → Bool
+isNegative (Fits v) = false
+isNegative Negative = true
+isNegative Outside = false
+
 abbrev pub isOutside : Total → Bool
 isOutside (Fits v) = false
+isOutside Negative = false
 isOutside Outside = true
 
 -- the table from 1 on, top to bottom, for a frame that is read as the command c
@@ -75,6 +82,7 @@ commandRows image s frame c =
     ∷ row 7 Nak (concerns false (λ b l. false) (λ o b. noRight (accessOf image b) (s .auth) o b) c)
     ∷ row 8 Nak (among (λ b. noValue image b) (λ b k. noValue image b) false c)
     ∷ row 9 Nak (among (λ b. false) (λ b k. false) (isEmpty (s .register)) c)
+    ∷ row 13 Nak (among (λ b. false) (λ b k. isNegative (totalFor k (bitsIn (contentOf image b)) (bitsIn frame))) false c)
     ∷ row 10 Nak (among (λ b. false) (λ b k. isOutside (totalFor k (bitsIn (contentOf image b)) (bitsIn frame))) false c)
     ∷ []
 

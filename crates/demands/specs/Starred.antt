@@ -16,7 +16,7 @@ use Rattle.value.specs.Block.{encodeOf, decodeOf}
 use Rattle.value.specs.declared.block.Decoded.{Decoded}
 use Rattle.value.specs.declared.block.Decoded.the-variants.{Value, NoValue}
 use Rattle.value.specs.declared.sum.Total.{Total}
-use Rattle.value.specs.declared.sum.Total.the-variants.{Fits, Outside}
+use Rattle.value.specs.declared.sum.Total.the-variants.{Fits, Negative, Outside}
 use Rattle.session.specs.declared.Kind.the-variants.{Increment, Decrement}
 use Rattle.judge.specs.Judge.{totalFor, loadOf}
 use Rattle.card.specs.Effects.{numberOf}
@@ -63,9 +63,10 @@ abbrev pub decodeAnswer : Decoded → Answer
 decodeAnswer (Value v a) = value-at (signed v) a
 decodeAnswer NoValue = no-value-block
 
--- a sum that leaves the range is refused with the card's own number for it
+-- an operand below zero and a sum that leaves the range are refused, each with the card's own number for it
 abbrev pub sumAnswer : Total → Answer
 sumAnswer (Fits v) = sum (signed v)
+sumAnswer Negative = refused (numberOf (loadOf Negative 0))
 sumAnswer Outside = refused (numberOf (loadOf Outside 0))
 
 -- the answer of the definitions; block 128 is the first of a large sector
@@ -129,8 +130,8 @@ starred =
     ∷ (plus (pos 2147483647) (pos 1) ⇒ refused 10)
     ∷ (minus (pos 0) (pos 1) ⇒ sum (negsuc 0))
     -- 9: -1 and 0, each minus -2,147,483,648
-    ∷ (minus (negsuc 0) (negsuc 2147483647) ⇒ sum (pos 2147483647))
-    ∷ (minus (pos 0) (negsuc 2147483647) ⇒ refused 10)
+    ∷ (minus (negsuc 0) (negsuc 2147483647) ⇒ refused 13)
+    ∷ (minus (pos 0) (negsuc 2147483647) ⇒ refused 13)
     ∷ []
 
 -- the one statement: every question has the answer that is owed

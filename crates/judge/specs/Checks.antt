@@ -1,4 +1,4 @@
--- The checks by their numbers, and which of them each command has to pass. 9 is an empty register, and 10 comes with the result.
+-- The checks by their numbers, and which of them each command has to pass. 9 is an empty register, and 13 and 10 come with the result.
 use Prim.Native.Nat.{ℕ, _+_}
 use mathlib.Core.Bool.{Bool, true, false, not, _&&_, _||_, cond}
 use mathlib.Core.List.{List, [], _∷_, _++_}

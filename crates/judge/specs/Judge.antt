@@ -7,7 +7,7 @@ use Rattle.memory.specs.Memory.{contentOf}
 use Rattle.value.specs.Block.{bitsIn, addressIn}
 use Rattle.value.specs.Sum.{plusOf, minusOf}
 use Rattle.value.specs.declared.sum.Total.{Total}
-use Rattle.value.specs.declared.sum.Total.the-variants.{Fits, Outside}
+use Rattle.value.specs.declared.sum.Total.the-variants.{Fits, Negative, Outside}
 use Rattle.access.specs.declared.rights.Operation.the-variants as column
 use Rattle.session.specs.declared.Kind.{Kind}
 use Rattle.session.specs.declared.Kind.the-variants.{Increment, Decrement, Restore}
@@ -25,15 +25,16 @@ use Rattle.judge.specs.declared.checks.Verdict.the-variants.{Refuse, Who
 use Rattle.judge.specs.declared.Act.{Act}
 use Rattle.judge.specs.declared.Act.the-variants.{Refused, Authenticated, Shown, TrailerShown, WriteWaits, ValueWaits, Stored, TrailerStored, Loaded, Moved, Halted}
 
--- what a value operation makes of a value; Restore leaves it
+-- what a value operation makes of a value; Restore leaves it, whatever its operand
 unfoldable pub totalFor : Kind → ℕ → ℕ → Total
 totalFor Increment value operand = plusOf value operand
 totalFor Decrement value operand = minusOf value operand
 totalFor Restore value operand = Fits value
 
--- 10 where the result is out of range, else it is loaded, with the source's address byte
+-- 13 where the operand is below zero, 10 where the result is out of range, else it is loaded, with the source's address byte
 unfoldable pub loadOf : Total → ℕ → Act
 loadOf (Fits v) address = Loaded v address
+loadOf Negative address = Refused 13
 loadOf Outside address = Refused 10
 
 -- what a second value frame does after its checks

@@ -38,6 +38,7 @@ fn load(t: Total, address: u8) -> Act
 {
     match t {
         Total::Fits(v) => Act::Loaded(v, address),
+        Total::Negative => Act::Refused(13),
         Total::Outside => Act::Refused(10),
     }
 }
@@ -50,7 +51,7 @@ fn operand_of(frame: &[u8]) -> u32
     value::word(frame[0], frame[1], frame[2], frame[3])
 }
 
-// A value operation's second frame after the shared checks: 8, 10, and then the result is loaded.
+// A value operation's second frame after the shared checks: 8, 13, 10, and then the result is loaded.
 pub(crate) fn apply(image: &[u8], k: Kind, b: Block, frame: &[u8]) -> Act
     requires { ⌜ 4 ≤ length (now frame) ⌝ }
     ensures { λ r. ⌜ r ≡ ruled (first (check 8 (noValue (now (image .entry)) b) ∷ [])) (appliedOf (now (image .entry)) k b (now (frame .entry))) ⌝ }

@@ -17,7 +17,7 @@ use Rattle.access.specs.declared.rights.Operation.the-variants as column
 use Rattle.access.specs.declared.rights.Parts.{Parts}
 use Rattle.value.specs.Block.{bitsIn, addressIn}
 use Rattle.value.specs.declared.sum.Total.{Total}
-use Rattle.value.specs.declared.sum.Total.the-variants.{Fits, Outside}
+use Rattle.value.specs.declared.sum.Total.the-variants.{Fits, Negative, Outside}
 use Rattle.session.specs.Session.{isEmpty}
 use Rattle.session.specs.declared.Auth.{Auth}
 use Rattle.session.specs.declared.Kind.{Kind}
@@ -114,6 +114,7 @@ module _ (image : List ℕ) (s : Session) (frame : List ℕ) where
   load : (k : Kind) (b : Block) (t : Total) → s .stage ≡ ValueWaits k b → Countable image (s .auth) k b
       → totalFor k (bitsIn (contentOf image b)) (bitsIn frame) ≡ t → Accepted image s frame (loadOf t (addressIn (contentOf image b)))
   unfolding loadOf
+  load k b Negative w c e = λ h. omega arith
   load k b Outside w c e = λ h. omega arith
   load k b (Fits v) w c e = record { kind = k; source = b; awaited = w; countable = c; result = e; address = refl }
 

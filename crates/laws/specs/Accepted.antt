@@ -52,7 +52,7 @@ pub record Admitted (image : List ℕ) (t : Sector) (l : Letter) (frame : List �
 abbrev pub trailerBits : List ℕ → Block → ℕ
 trailerBits image b = groupBits (accessOf image b) Trailer
 
--- the second frame of a value operation passed its checks and 10, and this is what it loaded
+-- the second frame of a value operation passed its checks, 13 and 10, and this is what it loaded
 pub record Load (image : List ℕ) (s : Session) (frame : List ℕ) (v a : ℕ) : Type 0 where
   pub kind : Kind
   pub source : Block

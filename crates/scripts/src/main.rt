@@ -51,6 +51,7 @@ fn main() {
     play(b"trailer_rows.script");
     play(b"value_17.script");
     play(b"no_value_block.script");
+    play(b"negative_operand.script");
     play(b"every_code.script");
     play(b"halt_and_awaiting.script");
     play(b"wrong_key.script");

@@ -7,9 +7,9 @@ use native.Mathlib.Omega.{arith}
 use lib.IntN.{ℤ, pos, negsuc, subℕ}
 use lib.Dec.{ltb, leb}
 use borrow.Author.Tests.{lt-ltb, le-ltb, le-leb, lt-leb, ltb-true, ltb-false, leb-true}
-use Rattle.value.specs.declared.sum.Total.the-variants.{Fits, Outside}
+use Rattle.value.specs.declared.sum.Total.the-variants.{Fits, Negative, Outside}
 use Rattle.value.specs.Whole.{signed}
-use Rattle.value.specs.Sum.{totalOf, plusOf, minusOf}
+use Rattle.value.specs.Sum.{totalOf, isNegative, ruledOf, plusOf, minusOf}
 use Rattle.value.proofs.Ints.{sub-plus, sub-minus}
 
 -- 32 bits moved up by 2^31: the order of these is that of the whole numbers
@@ -54,35 +54,52 @@ module _ (n m : ℕ) where
           let a : n - m ≡ lift ((n + 2147483648) - m) = omega arith in
           simp (e, le-leb (n - m) 2147483647 (omega arith)) (ap Fits a)
 
+-- 32 bits from 2^31 on stand for a number below zero, and no others do
+pub negative-is : (x : ℕ) → x < 4294967296 → leb 2147483648 x ≡ isNegative (signed x)
+unfolding isNegative
+negative-is x h = go (ltb x 2147483648) refl
+  where
+    go : (t : Bool) → ltb x 2147483648 ≡ t → leb 2147483648 x ≡ isNegative (signed x)
+    go true e = simp (e, lt-leb 2147483648 x (ltb-true x 2147483648 e))
+    go false e = simp (e, le-leb 2147483648 x (ltb-false x 2147483648 e))
+
+-- the ways out of the code, in the words of its tests
 module _ (v x : ℕ) (fv : v < 4294967296) (fx : x < 4294967296) where
-  pub plus-is : plusOf v x ≡ totalOf (subℕ (lift v + lift x) 4294967296)
-  plus-is = ap totalOf (rw (signed-is v fv, signed-is x fx) (sub-plus (lift v) 2147483648 (lift x) 2147483648))
+  pub below-zero : (result : ℤ) → isNegative (signed x) ≡ true → Negative ≡ ruledOf (signed x) result
+  unfolding ruledOf
+  below-zero result e = rw e
 
-  pub minus-is : minusOf v x ≡ totalOf (subℕ (lift v + 2147483648) (2147483648 + lift x))
-  minus-is = ap totalOf (rw (signed-is v fv, signed-is x fx) (sub-minus (lift v) 2147483648 (lift x) 2147483648))
+  module _ (e : isNegative (signed x) ≡ false) where
+    small : x < 2147483648
+    small = ltb-true x 2147483648 (go (ltb x 2147483648) refl)
+      where
+        go : (t : Bool) → ltb x 2147483648 ≡ t → t ≡ true
+        go true q = refl
+        go false q = sym (rw (← (negative-is x fx)) at e) ∙ le-leb 2147483648 x (ltb-false x 2147483648 q)
 
-  -- the three ways out of the code, in the words of its tests
-  pub plus-low : lift v + lift x < 2147483648 → Outside ≡ plusOf v x
-  plus-low h = sym (plus-is ∙ total-low (lift v + lift x) 4294967296 (omega arith))
+    plus-is : plusOf v x ≡ totalOf (subℕ (lift v + lift x) 4294967296)
+    unfolding ruledOf
+    plus-is = rw e (ap totalOf (rw (signed-is v fv, signed-is x fx) (sub-plus (lift v) 2147483648 (lift x) 2147483648)))
 
-  pub plus-high : 6442450944 ≤ lift v + lift x → Outside ≡ plusOf v x
-  plus-high h = sym (plus-is ∙ total-high (lift v + lift x) 4294967296 (omega arith))
+    minus-is : minusOf v x ≡ totalOf (subℕ (lift v + 2147483648) (2147483648 + lift x))
+    unfolding ruledOf
+    minus-is = rw e (ap totalOf (rw (signed-is v fv, signed-is x fx) (sub-minus (lift v) 2147483648 (lift x) 2147483648)))
 
-  pub plus-in : (r : ℕ) → 2147483648 ≤ lift v + lift x → lift v + lift x < 6442450944 → r ≡ lift ((lift v + lift x) - 2147483648) → Fits r ≡ plusOf v x
-  plus-in r l h e =
-      let k : r ≡ lift ((lift v + lift x + 2147483648) - 4294967296) = omega arith in
-      ap Fits k ∙ sym (plus-is ∙ total-in (lift v + lift x) 4294967296 (omega arith) (omega arith))
+    pub plus-high : 4294967296 ≤ lift v + x → Outside ≡ plusOf v x
+    plus-high h = sym (plus-is ∙ total-high (lift v + lift x) 4294967296 (omega (arith, small)))
 
-  pub minus-low : lift v + 2147483648 < lift x → Outside ≡ minusOf v x
-  minus-low h = sym (minus-is ∙ total-low (lift v + 2147483648) (2147483648 + lift x) (omega arith))
+    pub plus-in : (r : ℕ) → lift v + x < 4294967296 → r ≡ lift (lift v + x) → Fits r ≡ plusOf v x
+    plus-in r h q =
+        let k : r ≡ lift ((lift v + lift x + 2147483648) - 4294967296) = omega (arith, small) in
+        ap Fits k ∙ sym (plus-is ∙ total-in (lift v + lift x) 4294967296 (omega (arith, small)) (omega (arith, small)))
 
-  pub minus-high : 4294967296 + lift x ≤ lift v + 2147483648 → Outside ≡ minusOf v x
-  minus-high h = sym (minus-is ∙ total-high (lift v + 2147483648) (2147483648 + lift x) (omega arith))
+    pub minus-low : lift v < x → Outside ≡ minusOf v x
+    minus-low h = sym (minus-is ∙ total-low (lift v + 2147483648) (2147483648 + lift x) (omega (arith, small)))
 
-  pub minus-in : (r : ℕ) → lift x ≤ lift v + 2147483648 → lift v + 2147483648 < 4294967296 + lift x → r ≡ lift ((lift v + 2147483648) - lift x) → Fits r ≡ minusOf v x
-  minus-in r l h e =
-      let k : r ≡ lift ((lift v + 2147483648 + 2147483648) - (2147483648 + lift x)) = omega arith in
-      ap Fits k ∙ sym (minus-is ∙ total-in (lift v + 2147483648) (2147483648 + lift x) (omega arith) (omega arith))
+    pub minus-in : (r : ℕ) → x ≤ lift v → r ≡ lift (lift v - x) → Fits r ≡ minusOf v x
+    minus-in r l q =
+        let k : r ≡ lift ((lift v + 2147483648 + 2147483648) - (2147483648 + lift x)) = omega (arith, small) in
+        ap Fits k ∙ sym (minus-is ∙ total-in (lift v + 2147483648) (2147483648 + lift x) (omega (arith, small)) (omega (arith, small)))
 
 and-true : (b : Bool) → (b && true) ≡ b
 and-true true = refl
@@ -116,3 +133,12 @@ pub total-same : (v : ℕ) → v < 4294967296 → totalOf (signed v) ≡ Fits v
 total-same v h =
     let e : lift ((lift v + 2147483648) - 2147483648) ≡ v = omega arith in
     ap totalOf (signed-is v h) ∙ total-in (lift v) 2147483648 (omega arith) (omega arith) ∙ ap Fits e
+
+-- a result that is held is the number itself, and its operand is not below zero
+pub ruled-back : (operand result : ℤ) (r : ℕ) → ruledOf operand result ≡ Fits r → (isNegative operand ≡ false) × (signed r ≡ result) × (r < 4294967296)
+unfolding ruledOf
+ruled-back operand result r e = go (isNegative operand) refl
+  where
+    go : (t : Bool) → isNegative operand ≡ t → (isNegative operand ≡ false) × (signed r ≡ result) × (r < 4294967296)
+    go true q = let p : Negative ≡ Fits r = rw q at e in let z : _≡_ {A = ℕ} 0 1 = cc in absurd (omega arith)
+    go false q = let b = total-back result r (rw q at e) in (q, b .0, b .1)

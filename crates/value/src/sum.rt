@@ -1,11 +1,13 @@
 // Sums and differences of values: exact, or refused.
 ghost use mathlib.Core.Path.{_≡_};
 ghost use Prim.Native.Nat.{_+_, _%_, _<_};
-ghost use Rattle.value.specs.Sum.{plusOf, minusOf};
+ghost use Rattle.value.specs.Whole.{signed};
+ghost use Rattle.value.specs.Sum.{isNegative, plusOf, minusOf};
 
-// A result as its bits, or outside the range of a value.
+// A result as its bits; or its operand is below zero; or it is outside the range of a value.
 pub enum Total {
     Fits(u32),
+    Negative,
     Outside,
 }
 
@@ -24,28 +26,34 @@ fn lowered(n: u64) -> u32
     ((n + 2147483648) % 4294967296) as u32
 }
 
+fn is_negative(operand: u32) -> bool
+    ensures { λ r. ⌜ r ≡ isNegative (signed operand) ⌝ }
+{
+    2147483648 <= operand
+}
+
 pub fn plus(value: u32, operand: u32) -> Total
     ensures { λ r. ⌜ r ≡ plusOf value operand ⌝ }
 {
-    let sum = lifted(value) + lifted(operand);
-    if sum < 2147483648 {
+    if is_negative(operand) {
+        return Total::Negative;
+    }
+    let sum = lifted(value) + operand as u64;
+    if 4294967296 <= sum {
         return Total::Outside;
     }
-    if 6442450944 <= sum {
-        return Total::Outside;
-    }
-    Total::Fits(lowered(sum - 2147483648))
+    Total::Fits(lowered(sum))
 }
 
 pub fn minus(value: u32, operand: u32) -> Total
     ensures { λ r. ⌜ r ≡ minusOf value operand ⌝ }
 {
-    let from = lifted(value) + 2147483648;
-    let less = lifted(operand);
-    if from < less {
-        return Total::Outside;
+    if is_negative(operand) {
+        return Total::Negative;
     }
-    if 4294967296 <= from - less {
+    let from = lifted(value);
+    let less = operand as u64;
+    if from < less {
         return Total::Outside;
     }
     Total::Fits(lowered(from - less))
