@@ -3,6 +3,8 @@ pub mod Demand1
 pub mod Demand2
 pub mod Demand3
 pub mod Sealed
+pub mod Order
+pub mod OneWay
 pub mod Example
 pub mod Exact
 pub mod OneLayout

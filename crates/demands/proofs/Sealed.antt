@@ -93,7 +93,7 @@ module _ (image : List ℕ) (s : Session) where
       go false true = (12, refl)
       go false false = (1, refl)
 
-  sealed-refused : (frame : List ℕ) → unsealed frame ≡ true → (m : ℕ) × (sealedActOf image s frame ≡ Refused m)
+  pub sealed-refused : (frame : List ℕ) → unsealed frame ≡ true → (m : ℕ) × (sealedActOf image s frame ≡ Refused m)
   unfolding sealedActOf frameChecks first ruled
   sealed-refused frame u = rw u (go (noCard image) (incoherent image s))
     where

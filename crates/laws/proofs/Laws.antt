@@ -51,10 +51,10 @@ Touches (Loaded v a) j = ⊥
 Touches (Moved b v a) j = b .0 ≡ j .0
 Touches Halted j = ⊥
 
-abbrev sectorAt : ℕ → Sector
+abbrev pub sectorAt : ℕ → Sector
 sectorAt n = record { 0 = n }
 
-block-eq : (b c : Block) → b .0 ≡ c .0 → b ≡ c
+pub block-eq : (b c : Block) → b .0 ≡ c .0 → b ≡ c
 block-eq b c e = ap blockAt e
 
 or-left : (x y : Bool) → (x || y) ≡ false → x ≡ false
