@@ -42,32 +42,18 @@ fn play(path: &[u8]) {
     io::write_all(STDOUT_FILENO, &out[..length]);
 }
 
+// Plays the script that an argument names.
+fn play_named(i: usize) {
+    let mut name = [0u8; 64];
+    let n = os::arg(i, &mut name);
+    play(&name[..n]);
+}
+
 fn main() {
-    play(b"delivery.script");
-    play(b"key_b_of_a_transport_trailer.script");
-    play(b"last_block.script");
-    play(b"trailer_000.script");
-    play(b"data_rows.script");
-    play(b"trailer_rows.script");
-    play(b"value_17.script");
-    play(b"no_value_block.script");
-    play(b"negative_operand.script");
-    play(b"every_code.script");
-    play(b"halt_and_awaiting.script");
-    play(b"wrong_key.script");
-    play(b"blocked.script");
-    play(b"long_events.script");
-    play(b"no_events.script");
-    play(b"refused_20_nothing.script");
-    play(b"refused_20_half_a_count.script");
-    play(b"refused_21_zero.script");
-    play(b"refused_21_before_20.script");
-    play(b"refused_20_image_short.script");
-    play(b"refused_20_no_event_count.script");
-    play(b"refused_20_half_an_event_count.script");
-    play(b"refused_22.script");
-    play(b"thousand_events.script");
-    play(b"refused_23.script");
-    play(b"refused_20_event_short.script");
-    play(b"refused_24.script");
+    let count = os::arg_count();
+    let mut i: usize = 1;
+    while i < count {
+        play_named(i);
+        i += 1;
+    }
 }

@@ -36,35 +36,35 @@ enum-told-10 c = search needs
 
 returns : tie.Need-returns
 unfolding allowsOf
-returns c = cc
+returns c = rw (c .enum-told2 .given .1)
 
 returns-2 : tie.Need-returns-2
 unfolding allowsOf
-returns-2 c = cc
+returns-2 c = rw (c .enum-told3 .given .1, c .before .before .enum-told .given .1)
 
 returns-3 : tie.Need-returns-3
 unfolding allowsOf
-returns-3 c = cc
+returns-3 c = rw (c .enum-told4 .given .1, c .before .before .enum-told .given .1)
 
 returns-4 : tie.Need-returns-4
 unfolding allowsOf
-returns-4 c = cc
+returns-4 c = rw (c .enum-told5 .given .1)
 
 returns-5 : tie.Need-returns-5
 unfolding allowsOf
-returns-5 c = cc
+returns-5 c = rw (c .enum-told7 .given .1)
 
 returns-6 : tie.Need-returns-6
 unfolding allowsOf
-returns-6 c = cc
+returns-6 c = rw (c .enum-told8 .given .1, c .before .before .enum-told6 .given .1)
 
 returns-7 : tie.Need-returns-7
 unfolding allowsOf
-returns-7 c = cc
+returns-7 c = rw (c .enum-told9 .given .1, c .before .before .enum-told6 .given .1)
 
 returns-8 : tie.Need-returns-8
 unfolding allowsOf
-returns-8 c = cc
+returns-8 c = rw (c .enum-told10 .given .1)
 
 pub allows-spec : {M : Type 1} → statement M
 allows-spec =

@@ -12,7 +12,7 @@ is-yes-requires c κs = search needs
 
 returns : tie.Need-returns
 unfolding readableOf
-returns c = cc
+returns c = rw (← c .before .trailer-row .ensures) (c .is-yes .ensures)
 
 pub is-readable-spec : {M : Type 1} → statement M
 is-readable-spec = tie.close (tie.spec trailer-row-requires is-yes-requires returns)

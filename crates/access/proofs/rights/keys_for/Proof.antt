@@ -18,19 +18,19 @@ enum-told-4 c = search needs
 
 returns : tie.Need-returns
 unfolding keysFor
-returns c = cc
+returns c = rw (c .enum-told .given .1)
 
 returns-2 : tie.Need-returns-2
 unfolding keysFor
-returns-2 c = cc
+returns-2 c = rw (c .enum-told2 .given .1)
 
 returns-3 : tie.Need-returns-3
 unfolding keysFor
-returns-3 c = cc
+returns-3 c = rw (c .enum-told3 .given .1)
 
 returns-4 : tie.Need-returns-4
 unfolding keysFor
-returns-4 c = cc
+returns-4 c = rw (c .enum-told4 .given .1)
 
 pub keys-for-spec : {M : Type 1} → statement M
 keys-for-spec =

@@ -15,7 +15,7 @@ allows-requires c κs = search needs
 
 returns : tie.Need-returns
 unfolding mayOf
-returns c = cc
+returns c = rw (← c .before .before .data-row .ensures, ← c .before .keys-for .ensures) (c .allows .ensures)
 
 pub may-spec : {M : Type 1} → statement M
 may-spec = tie.close (tie.spec data-row-requires keys-for-requires allows-requires returns)

@@ -18,7 +18,7 @@ allows-requires-3 c κs = search needs
 
 returns : tie.Need-returns
 unfolding writableOf
-returns c = cc
+returns c = rw (c .allows3 .ensures, c .before .allows2 .ensures, c .before .before .allows .ensures, c .before .before .before .trailer-row .ensures)
 
 pub writable-spec : {M : Type 1} → statement M
 writable-spec =
