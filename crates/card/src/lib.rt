@@ -7,6 +7,7 @@ ghost use Rattle.card.specs.Step.{answerOf, imageAfter, resetOf, noSessi
 mod outcome;
 mod trailer;
 
+pub use outcome::enact;
 pub use outcome::refusal;
 use session::Session;
 
@@ -45,7 +46,7 @@ pub fn step(image: &mut [u8], s: Session, frame: &[u8]) -> Answer
     ensures { λ _. ⌜ now (image .exit) ≡ imageAfter (now (image .entry)) s (now (frame .entry)) ⌝ }
 {
     let act = judge::judge(&image[..], s, frame);
-    outcome::enact(image, s, act, frame)
+    enact(image, s, act, frame)
 }
 
 // The reader's field went away and came back: always accepted, and no image is needed.

@@ -97,8 +97,8 @@ fn loaded(s: Session, v: u32, a: u8) -> Session
     }
 }
 
-// The act is taken apart once: a case gives its answer, and stores where it has something to store.
-pub(crate) fn enact(image: &mut [u8], s: Session, act: Act, frame: &[u8]) -> Answer
+// What an act does. It is taken apart once: a case gives its answer, and stores where it has something to store.
+pub fn enact(image: &mut [u8], s: Session, act: Act, frame: &[u8]) -> Answer
     ensures { λ r. ⌜ r ≡ answered (now (image .entry)) s act ⌝ }
     ensures { λ _. ⌜ now (image .exit) ≡ imageOf (now (image .entry)) (s .auth) act (now (frame .entry)) ⌝ }
 {

@@ -1,7 +1,8 @@
 -- Demand 2: value blocks there and back, and a run cut anywhere is two runs.
 -- Assumes nothing.
-use mathlib.Core.Path.{_≡_, refl, ap}
-use mathlib.Core.List.{List, [], _∷_, _++_}
+use mathlib.Core.Path.{_≡_, refl}
+use mathlib.Core.Bool.{Bool, true, false}
+use mathlib.Core.List.{List, [], _∷_}
 use Prim.Native.Nat.{ℕ}
 use lib.IntN.{ℤ}
 use Rattle.value.specs.Whole.{bits}
@@ -9,9 +10,15 @@ use Rattle.value.specs.Sum.{totalOf}
 use Rattle.value.specs.declared.sum.Total.the-variants.{Fits}
 use Rattle.value.proofs.Blocks.{decode-encode-whole, encode-decode}
 use Rattle.session.specs.declared.Session.{Session}
-use Rattle.card.specs.declared.Answer.{Answer}
-use Rattle.play.specs.Run.{eventAnswer, eventImage, answersOf, sessionAfter, runImage}
-use Rattle.demands.specs.Demand2.{ReadsBack, Rewritten, EventByEvent}
+use Rattle.card.specs.Effects.{sessionOf, imageOf}
+use Rattle.card.specs.Step.{answered, answerOf, imageAfter}
+use Rattle.sealed.specs.Sealed.{unsealed, sealedOf, sealedAnswerOf, sealedImageAfter}
+use Rattle.sealed.proofs.Acts.{inner-act}
+use Rattle.sealed.proofs.Laws.{as-bare}
+use Rattle.runs.proofs.Laws.{answers-cut, run-cut}
+use Rattle.laws.proofs.Keeps.{unsealed-refused}
+use Rattle.runs.specs.Run.{State, Sent, reset, bare, sealed, answerTo, imageUpon, after, runOf, answersOf}
+use Rattle.demands.specs.Demand2.{ReadsBack, Rewritten, EventByEvent, AsBare, bareOf, SameRun}
 
 pub reads-back : (value : ℤ) (address : ℕ) → ReadsBack value address
 unfolding totalOf
@@ -23,25 +30,27 @@ reads-back value address h =
 pub rewritten : (block : List ℕ) → Rewritten block
 rewritten block v address e = encode-decode block v address e
 
--- a run cut in two
-pub answers-cut : (image : List ℕ) (s : Session) (past rest : List (List ℕ)) → answersOf image s (past ++ rest) ≡ answersOf image s past ++ answersOf (runImage image s past) (sessionAfter image s past) rest
-unfolding answersOf sessionAfter runImage
-answers-cut image s [] rest = refl
-answers-cut image s (e ∷ past) rest = ap (λ (rest : List Answer). eventAnswer image s e ∷ rest) (answers-cut (eventImage image s e) (eventAnswer image s e .session) past rest)
+pub event-by-event : (st : State) (past : List Sent) (event : Sent) (future : List Sent) → EventByEvent st past event future
+unfolding answersOf runOf
+event-by-event st past event future =
+    let left = run-cut st past (event ∷ []) in
+    record { answers = rw left (answers-cut st past (event ∷ future)); left = left }
 
-pub session-cut : (image : List ℕ) (s : Session) (past rest : List (List ℕ)) → sessionAfter image s (past ++ rest) ≡ sessionAfter (runImage image s past) (sessionAfter image s past) rest
-unfolding sessionAfter runImage
-session-cut image s [] rest = refl
-session-cut image s (e ∷ past) rest = session-cut (eventImage image s e) (eventAnswer image s e .session) past rest
+pub sealed-as-bare : (image : List ℕ) (s : Session) (frame : List ℕ) → AsBare image s frame
+sealed-as-bare image s frame e = as-bare image s frame e
 
-pub image-cut : (image : List ℕ) (s : Session) (past rest : List (List ℕ)) → runImage image s (past ++ rest) ≡ runImage (runImage image s past) (sessionAfter image s past) rest
-unfolding sessionAfter runImage
-image-cut image s [] rest = refl
-image-cut image s (e ∷ past) rest = image-cut (eventImage image s e) (eventAnswer image s e .session) past rest
+-- an event leaves what its bare event leaves
+bare-after : (st : State) (e : Sent) → after st e ≡ after st (bareOf e)
+unfolding after answerTo imageUpon answerOf answered imageAfter sealedAnswerOf sealedOf sealedImageAfter sessionOf imageOf
+bare-after st reset = refl
+bare-after st (bare frame) = refl
+bare-after st (sealed frame) = go (unsealed frame) refl
+  where
+    go : (u : Bool) → unsealed frame ≡ u → after st (sealed frame) ≡ after st (bareOf (sealed frame))
+    go true u = rw (u, unsealed-refused (st .image) (st .session) frame u .1)
+    go false u = rw (u, inner-act (st .image) (st .session) frame u)
 
-pub event-by-event : (image : List ℕ) (s : Session) (past : List (List ℕ)) (event : List ℕ) (future : List (List ℕ)) → EventByEvent image s past event future
-unfolding answersOf sessionAfter runImage
-event-by-event image s past event future =
-    let session = session-cut image s past (event ∷ []) in
-    let image-after = image-cut image s past (event ∷ []) in
-    record { answers = rw (session, image-after) (answers-cut image s past (event ∷ future)); session = session; image-after = image-after }
+pub same-run : SameRun
+unfolding runOf
+same-run st [] = refl
+same-run st (e ∷ es) = rw (bare-after st e) (same-run (after st (bareOf e)) es)

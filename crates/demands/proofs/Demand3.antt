@@ -1,13 +1,13 @@
 -- Demand 3: the books of a block stay true, act by act.
 -- Assumes nothing.
 use mathlib.Core.Path.{_≡_, refl, sym, _∙_, ap}
-use mathlib.Core.Bool.{Bool, true, false, not, _&&_, cond, false≢true}
-use mathlib.Core.List.{List, [], _∷_, _++_}
+use mathlib.Core.Bool.{Bool, true, false, not, _||_, cond}
+use mathlib.Core.List.{List}
 use Prim.Native.Nat.{ℕ, _<_}
 use lib.Dec.{eqb}
 use lib.IntN.{ℤ, _+ℤ_, +ℤ-assoc, +ℤ-idr}
 use lib.ListN.{length}
-use borrow.Author.Tests.{eqb-true, eqb-false}
+use borrow.Author.Tests.{eqb-true, eqb-false, not-true}
 use Rattle.layout.specs.Layout.{hasBlock}
 use Rattle.layout.specs.declared.Block.{Block}
 use Rattle.memory.specs.Memory.{contentOf, storeOf}
@@ -16,26 +16,24 @@ use Rattle.value.specs.Whole.{signed}
 use Rattle.value.specs.Block.{encodeOf, decodeOf, bitsIn, addressIn}
 use Rattle.value.specs.declared.block.Decoded.the-variants.{Value}
 use Rattle.value.specs.declared.sum.Total.the-variants.{Fits}
-use Rattle.value.proofs.Blocks.{and-left, decode-encode, decode-small, encode-length, read-value}
+use Rattle.value.proofs.Blocks.{decode-encode, decode-small, encode-length, read-value}
 use Rattle.value.proofs.Sums.{ruled-back}
-use Rattle.session.specs.Session.{freshOf}
 use Rattle.session.specs.declared.Kind.{Kind}
 use Rattle.session.specs.declared.Kind.the-variants.{Increment, Decrement, Restore}
 use Rattle.session.specs.declared.Register.{Register}
 use Rattle.session.specs.declared.Register.the-variants.{Full}
-use Rattle.session.specs.declared.Session.{Session}
 use Rattle.frame.specs.Command.{blockAt}
 use Rattle.judge.specs.Grant.{writableBy}
-use Rattle.judge.specs.Judge.{totalFor, judgeOf}
+use Rattle.judge.specs.Judge.{totalFor}
 use Rattle.judge.specs.declared.Act.{Act}
 use Rattle.judge.specs.declared.Act.the-variants.{Refused, Authenticated, Shown, TrailerShown, WriteWaits, ValueWaits, Stored, TrailerStored, Loaded, Moved, Halted}
 use Rattle.card.specs.Effects.{sessionOf, imageOf}
-use Rattle.card.specs.Step.{answered, answerOf, imageAfter, resetOf}
+use Rattle.runs.specs.Run.{State, begin, Sent, acted}
+use Rattle.runs.specs.Watch.{noted, nothingNoted}
 use Rattle.laws.specs.Accepted.{Accepted, Load}
-use Rattle.laws.proofs.Sound.{sound}
 use Rattle.laws.proofs.Lengths.{sixteen-length, mixed-length}
-use Rattle.play.specs.Run.{eventAnswer, eventImage, sessionAfter, runImage}
-use Rattle.demands.specs.Demand3.{Held, foreign, load, Books, opened, changeOf, loadFor, transferred, holding, booked, actOf, booksAfter, Demand3}
+use Rattle.laws.proofs.Keeps.{both-true, keeps, beside, beside-noted, both, beside-always, unasked}
+use Rattle.demands.specs.Demand3.{deedOf, isWrite, isTransfer, ownLoad, Books, opened, changeOf, settled, booked, Demand3}
 
 -- a block that holds a value and an address byte
 holds : (block : List ℕ) (v a : ℕ) → decodeOf block ≡ Value v a → (bitsIn block ≡ v) × (addressIn block ≡ a)
@@ -51,150 +49,129 @@ result Increment w x frame h e = let b = ruled-back _ _ x e in (b .1, b .2)
 result Decrement w x frame h e = let b = ruled-back _ _ x e in (b .1, b .2)
 result Restore w x frame h e = let q : w ≡ x = cc in (ap signed (sym q) ∙ sym (+ℤ-idr (signed w)), rw q at h)
 
-not-true : (x y : Bool) → (x && not y) ≡ true → y ≡ false
-not-true true true h = absurd (false≢true h)
-not-true true false h = refl
-not-true false y h = absurd (false≢true h)
-
 module _ (b : Block) (v a : ℕ) where
-  -- what the register holds, for a block with the value w
-  abbrev Holds : Held → Register → ℕ → Type 0
-  Holds foreign r w = Unit {0}
-  Holds (load change true) r w = r ≡ Full w a
-  Holds (load change false) r w = (x : ℕ) × (r ≡ Full x a) × (signed x ≡ signed w +ℤ change) × (x < 4294967296)
+  -- what a register that holds a load of the block has in it, for a block with the value w
+  abbrev Holds : Bool → Bool → ℤ → Register → ℕ → Type 0
+  Holds false counted change r w = Unit {0}
+  Holds true true change r w = r ≡ Full w a
+  Holds true false change r w = (x : ℕ) × (r ≡ Full x a) × (signed x ≡ signed w +ℤ change) × (x < 4294967296)
 
   -- the books are true
-  record True (image : List ℕ) (r : Register) (k : Books) : Type 0 where
+  record True (own : Bool) (k : Books) (image : List ℕ) (r : Register) : Type 0 where
     value : ℕ
     here : decodeOf (contentOf image b) ≡ Value value a
-    sum : signed value ≡ signed v +ℤ k .counted
-    held : Holds (k .held) r value
+    sum : signed value ≡ signed v +ℤ k .sum
+    held : Holds own (k .counted) (k .change) r value
 
-  -- the block and the books stay, and the register too or nothing is held
-  stays : (image image′ : List ℕ) (r : Register) (k : Books) → contentOf image′ b ≡ contentOf image b → True image r k → True image′ r k
-  stays image image′ r k e t = record { value = t .value; here = ap decodeOf e ∙ t .here; sum = t .sum; held = t .held }
-
-  empties : (image : List ℕ) (r r′ : Register) (k : Books) → True image r k → True image r′ (holding foreign k)
-  empties image r r′ k t = record { value = t .value; here = t .here; sum = t .sum; held = tt }
-
-  module _ (image : List ℕ) (s : Session) (frame : List ℕ) (k : Books) (t : True image (s .register) k) where
-    -- a load from the block, or from another
-    loads : (x d : ℕ) → Load image s frame x d → True image (Full x d) (holding (loadFor b (s .stage) frame) k)
-    loads x d l = rw (l .awaited) (go (eqb (l .source .0) (b .0)) refl)
-      where
-        go : (u : Bool) → eqb (l .source .0) (b .0) ≡ u → True image (Full x d) (holding (cond u (load (changeOf (l .kind) frame) false) foreign) k)
-        go false e = empties image (s .register) (Full x d) k t
-        go true e =
-            let q : l .source ≡ b = ap blockAt (eqb-true (l .source .0) (b .0) e) in
-            let h = holds (contentOf image b) (t .value) a (t .here) in
-            let w : bitsIn (contentOf image (l .source)) ≡ t .value = ap (λ (c : Block). bitsIn (contentOf image c)) q ∙ h .0 in
-            let ad : d ≡ a = l .address ∙ ap (λ (c : Block). addressIn (contentOf image c)) q ∙ h .1 in
-            let z = result (l .kind) (t .value) x frame (decode-small (contentOf image b) (t .value) a (t .here)) (rw w at (l .result)) in
-            record { value = t .value; here = t .here; sum = t .sum; held = (x, ap (Full x) ad, z .0, z .1) }
-
-    -- a Write into another block
-    writes : (c : Block) (bytes : List ℕ) → length bytes ≡ 16 → (k .fair && not (eqb (c .0) (b .0))) ≡ true
-        → True (storeOf image c bytes) (s .register) (record { held = k .held; counted = k .counted; fair = k .fair && not (eqb (c .0) (b .0)) })
-    writes c bytes l f =
-        let other : eqb (c .0) (b .0) ≡ false = not-true (k .fair) (eqb (c .0) (b .0)) f in
-        let e = store-other image c bytes l b (eqb-false (c .0) (b .0) other) in
+  module _ (own : Bool) (k : Books) (st : State) (frame : List ℕ) (t : True own k (st .image) (st .session .register)) where
+    -- another block was stored into
+    stays : (c : Block) (bytes : List ℕ) → length bytes ≡ 16 → eqb (c .0) (b .0) ≡ false → True own k (storeOf (st .image) c bytes) (st .session .register)
+    stays c bytes l other =
+        let e = store-other (st .image) c bytes l b (eqb-false (c .0) (b .0) other) in
         record { value = t .value; here = ap decodeOf e ∙ t .here; sum = t .sum; held = t .held }
 
+    -- nothing of the block is held
+    empties : (r : Register) → True false k (st .image) r
+    empties r = record { value = t .value; here = t .here; sum = t .sum; held = tt }
+
+    -- a load from the block, or from another
+    loads : (x d : ℕ) → Load (st .image) (st .session) frame x d
+        → True (ownLoad b own st frame (Loaded x d)) (booked b k st frame (Loaded x d)) (st .image) (Full x d)
+    loads x d l = rw (l .awaited) (go (eqb (l .source .0) (b .0)) refl)
+      where
+        go : (u : Bool) → eqb (l .source .0) (b .0) ≡ u → True u (record { change = changeOf (l .kind) frame; counted = false; sum = k .sum }) (st .image) (Full x d)
+        go false e = record { value = t .value; here = t .here; sum = t .sum; held = tt }
+        go true e =
+            let q : l .source ≡ b = ap blockAt (eqb-true (l .source .0) (b .0) e) in
+            let h = holds (contentOf (st .image) b) (t .value) a (t .here) in
+            let w : bitsIn (contentOf (st .image) (l .source)) ≡ t .value = ap (λ (c : Block). bitsIn (contentOf (st .image) c)) q ∙ h .0 in
+            let ad : d ≡ a = l .address ∙ ap (λ (c : Block). addressIn (contentOf (st .image) c)) q ∙ h .1 in
+            let z = result (l .kind) (t .value) x frame (decode-small (contentOf (st .image) b) (t .value) a (t .here)) (rw w at (l .result)) in
+            record { value = t .value; here = t .here; sum = t .sum; held = (x, ap (Full x) ad, z .0, z .1) }
+
     -- a Transfer into another block, or of a load into this one
-    moves : (c : Block) (x d : ℕ) → hasBlock (length image) c ≡ true → s .register ≡ Full x d → cond (eqb (c .0) (b .0)) (transferred (k .held) k) k .fair ≡ true
-        → True (storeOf image c (encodeOf (signed x) d)) (s .register) (cond (eqb (c .0) (b .0)) (transferred (k .held) k) k)
-    moves c x d has full = go (eqb (c .0) (b .0)) refl
+    moves : (c : Block) (x d : ℕ) → hasBlock (length (st .image)) c ≡ true → st .session .register ≡ Full x d → (u : Bool) → eqb (c .0) (b .0) ≡ u → (not u || own) ≡ true
+        → True own (cond u (settled k) k) (storeOf (st .image) c (encodeOf (signed x) d)) (st .session .register)
+    moves c x d has full false e f = stays c (encodeOf (signed x) d) (encode-length (signed x) d) e
+    moves c x d has full true e f = brought (k .counted) refl
       where
         -- the block afterwards, once its value and address byte are known
-        after : c .0 ≡ b .0 → (y : ℕ) → Full x d ≡ Full y a → y < 4294967296 → decodeOf (contentOf (storeOf image c (encodeOf (signed x) d)) b) ≡ Value y a
-        after e y q h =
+        block-after : (y : ℕ) → Full x d ≡ Full y a → y < 4294967296 → decodeOf (contentOf (storeOf (st .image) c (encodeOf (signed x) d)) b) ≡ Value y a
+        block-after y q h =
             let p = full-value x y d a q in
-            let put : contentOf (storeOf image c (encodeOf (signed x) d)) c ≡ encodeOf (signed x) d = store-back image c (encodeOf (signed x) d) (encode-length (signed x) d) has in
-            let there : contentOf (storeOf image c (encodeOf (signed x) d)) b ≡ encodeOf (signed y) a =
-            ap (λ (j : Block). contentOf (storeOf image c (encodeOf (signed x) d)) j) (ap blockAt (sym e)) ∙ put ∙ rw (p .0, p .1) in
+            let put : contentOf (storeOf (st .image) c (encodeOf (signed x) d)) c ≡ encodeOf (signed x) d = store-back (st .image) c (encodeOf (signed x) d) (encode-length (signed x) d) has in
+            let there : contentOf (storeOf (st .image) c (encodeOf (signed x) d)) b ≡ encodeOf (signed y) a =
+            ap (λ (j : Block). contentOf (storeOf (st .image) c (encodeOf (signed x) d)) j) (ap blockAt (sym (eqb-true (c .0) (b .0) e))) ∙ put ∙ rw (p .0, p .1) in
             ap decodeOf there ∙ decode-encode y a h
 
-        own : c .0 ≡ b .0 → (h : Held) → k .held ≡ h → transferred h k .fair ≡ true → True (storeOf image c (encodeOf (signed x) d)) (s .register) (transferred h k)
-        own e foreign eh f = absurd (false≢true f)
-        own e (load change true) eh f =
-            let r : s .register ≡ Full (t .value) a = rw eh at (t .held) in
-            let h = decode-small (contentOf image b) (t .value) a (t .here) in
-            record { value = t .value; here = after e (t .value) (sym full ∙ r) h; sum = t .sum; held = t .held }
-        own e (load change false) eh f =
-            let r : Holds (load change false) (s .register) (t .value) = rw eh at (t .held) in
-            record {
+        brought : (n : Bool) → k .counted ≡ n
+            → True own (record { change = k .change; counted = true; sum = cond (k .counted) (k .sum) (k .sum +ℤ k .change) }) (storeOf (st .image) c (encodeOf (signed x) d)) (st .session .register)
+        brought true n =
+            let r : st .session .register ≡ Full (t .value) a = rw (f, n) at (t .held) in
+            let h = decode-small (contentOf (st .image) b) (t .value) a (t .here) in
+            rw (f, n) (record { value = t .value; here = block-after (t .value) (sym full ∙ r) h; sum = t .sum; held = r })
+        brought false n =
+            let r : Holds true false (k .change) (st .session .register) (t .value) = rw (f, n) at (t .held) in
+            rw (f, n)
+            (record {
               value = r .0;
-              here = after e (r .0) (sym full ∙ r .1) (r .3);
-              sum = r .2 ∙ ap (λ (z : ℤ). z +ℤ change) (t .sum) ∙ +ℤ-assoc (signed v) (k .counted) change;
+              here = block-after (r .0) (sym full ∙ r .1) (r .3);
+              sum = r .2 ∙ ap (λ (z : ℤ). z +ℤ k .change) (t .sum) ∙ +ℤ-assoc (signed v) (k .sum) (k .change);
               held = r .1;
-            }
+            })
 
-        go : (u : Bool) → eqb (c .0) (b .0) ≡ u → cond u (transferred (k .held) k) k .fair ≡ true
-            → True (storeOf image c (encodeOf (signed x) d)) (s .register) (cond u (transferred (k .held) k) k)
-        go false e f = stays image _ (s .register) k (store-other image c (encodeOf (signed x) d) (encode-length (signed x) d) b (eqb-false (c .0) (b .0) e)) t
-        go true e f = own (eqb-true (c .0) (b .0) e) (k .held) refl f
-
-    step : (act : Act) → Accepted image s frame act → booked b s frame act k .fair ≡ true → True (imageOf image (s .auth) act frame) (sessionOf s act .register) (booked b s frame act k)
+    step : (act : Act) → Accepted (st .image) (st .session) frame act → not (isWrite b (deedOf act)) ≡ true → (not (isTransfer b (deedOf act)) || own) ≡ true
+        → True (ownLoad b own st frame act) (booked b k st frame act) (acted st frame act .image) (acted st frame act .session .register)
     unfolding imageOf sessionOf
-    step (Refused n) h f = empties image (s .register) _ k t
-    step (Authenticated u l) h f = empties image (s .register) _ k t
-    step (Shown c) h f = t
-    step (TrailerShown c m) h f = t
-    step (WriteWaits c) h f = t
-    step (ValueWaits c j) h f = t
-    step (Stored c) h f = writes c _ (sixteen-length frame) f
-    step (TrailerStored c m) h f = writes c _ (mixed-length (writableBy (s .auth) m) image c frame) f
-    step (Loaded x d) h f = loads x d h
-    step (Moved c x d) h f = moves c x d (h .1 .has) (h .2) f
-    step Halted h f = empties image (s .register) _ k t
+    step (Refused n) h w f = empties _
+    step (Authenticated u l) h w f = empties _
+    step (Shown c) h w f = t
+    step (TrailerShown c m) h w f = t
+    step (WriteWaits c) h w f = t
+    step (ValueWaits c j) h w f = t
+    step (Stored c) h w f = stays c _ (sixteen-length frame) (not-true _ w)
+    step (TrailerStored c m) h w f = stays c _ (mixed-length (writableBy (st .session .auth) m) (st .image) c frame) (not-true _ w)
+    step (Loaded x d) h w f = loads x d h
+    step (Moved c x d) h w f = moves c x d (h .1 .has) (h .2) (eqb (c .0) (b .0)) refl f
+    step Halted h w f = empties _
 
-  -- an event: a field reset, or a frame
-  event-step : (image : List ℕ) (s : Session) (e : List ℕ) (k : Books) → True image (s .register) k → booked b s e (actOf image s e) k .fair ≡ true
-      → True (eventImage image s e) (eventAnswer image s e .session .register) (booked b s e (actOf image s e) k)
-  unfolding actOf eventImage eventAnswer answerOf answered imageAfter
-  event-step image s e k t = go (eqb (length e) 0)
-    where
-      go : (u : Bool) → booked b s e (cond u Halted (judgeOf image s e)) k .fair ≡ true
-          → True (cond u image (imageAfter image s e)) (cond u resetOf (answerOf image s e) .session .register) (booked b s e (cond u Halted (judgeOf image s e)) k)
-      go true f = empties image (s .register) _ k t
-      go false f = step image s e k t (judgeOf image s e) (sound image s e) f
+-- three watchers side by side: one sees that the block is not written, one that only its own loads come into it, and one keeps its books
+module _ (b : Block) where
+  abbrev Notes : Type 0
+  Notes = Unit {0} × (Bool × Books)
 
-  -- what is fair in the end was fair before
-  transferred-fair : (h : Held) (k : Books) → transferred h k .fair ≡ true → k .fair ≡ true
-  transferred-fair foreign k f = absurd (false≢true f)
-  transferred-fair (load change true) k f = f
-  transferred-fair (load change false) k f = f
+  abbrev watch : Notes → State → List ℕ → Act → Notes
+  watch = beside nothingNoted (beside (ownLoad b) (booked b))
 
-  booked-fair : (s : Session) (e : List ℕ) (act : Act) (k : Books) → booked b s e act k .fair ≡ true → k .fair ≡ true
-  booked-fair s e (Refused n) k f = f
-  booked-fair s e (Authenticated t l) k f = f
-  booked-fair s e (Shown c) k f = f
-  booked-fair s e (TrailerShown c m) k f = f
-  booked-fair s e (WriteWaits c) k f = f
-  booked-fair s e (ValueWaits c j) k f = f
-  booked-fair s e (Stored c) k f = and-left (k .fair) (not (eqb (c .0) (b .0))) f
-  booked-fair s e (TrailerStored c m) k f = and-left (k .fair) (not (eqb (c .0) (b .0))) f
-  booked-fair s e (Loaded x d) k f = f
-  booked-fair s e (Moved c x d) k f = go (eqb (c .0) (b .0)) f
-    where
-      go : (u : Bool) → cond u (transferred (k .held) k) k .fair ≡ true → k .fair ≡ true
-      go true q = transferred-fair (k .held) k q
-      go false q = q
-  booked-fair s e Halted k f = f
+  abbrev unwrittenTest : Unit {0} → State → List ℕ → Act → Bool
+  unwrittenTest x st frame act = not (isWrite b (deedOf act))
 
-  run-fair : (image : List ℕ) (s : Session) (k : Books) (events : List (List ℕ)) → booksAfter b image s k events .fair ≡ true → k .fair ≡ true
-  unfolding booksAfter
-  run-fair image s k [] f = f
-  run-fair image s k (e ∷ es) f = booked-fair s e (actOf image s e) k (run-fair _ _ _ es f)
+  abbrev ownTest : Bool → State → List ℕ → Act → Bool
+  ownTest own st frame act = not (isTransfer b (deedOf act)) || own
 
-  run : (image : List ℕ) (s : Session) (k : Books) (past future : List (List ℕ)) → True image (s .register) k → booksAfter b image s k (past ++ future) .fair ≡ true
-      → True (runImage image s past) (sessionAfter image s past .register) (booksAfter b image s k past)
-  unfolding booksAfter runImage sessionAfter
-  run image s k [] future t f = t
-  run image s k (e ∷ past) future t f = run _ _ _ past future (event-step image s e k t (run-fair _ _ _ (past ++ future) f)) f
+  abbrev noTest : Books → State → List ℕ → Act → Bool
+  noTest k st frame act = true
+
+  abbrev test : Notes → State → List ℕ → Act → Bool
+  test = both nothingNoted (beside (ownLoad b) (booked b)) unwrittenTest (both (ownLoad b) (booked b) ownTest noTest)
+
+  books : (st : State) (events : List Sent) → noted watch (tt, (false, opened)) st events .1 .1 ≡ noted (booked b) opened st events
+  books st events =
+      ap (λ (x : Notes). x .1 .1) (beside-noted nothingNoted (beside (ownLoad b) (booked b)) tt (false, opened) st events)
+      ∙ ap (λ (x : Bool × Books). x .1) (beside-noted (ownLoad b) (booked b) false opened st events)
 
 pub demand-3 : Demand3
-demand-3 image b v a e past future f =
-    let start : True b v a image (freshOf .register) opened = record { value = v; here = e; sum = sym (+ℤ-idr (signed v)); held = tt } in
-    let t = run b v a image freshOf opened past future start f in
-    (t .value, t .here, t .sum)
+demand-3 image b v a e events unwritten own =
+    let P : Notes b → State → Type 0 = λ x st. True b v a (x .1 .0) (x .1 .1) (st .image) (st .session .register) in
+    let start : P (tt, (false, opened)) (begin image) = record { value = v; here = e; sum = sym (+ℤ-idr (signed v)); held = tt } in
+    let passed = beside-always (ownLoad b) (booked b) (ownTest b) (noTest b) false opened (begin image) events own (unasked (booked b) opened (begin image) events) in
+    let t =
+    keeps (watch b) (test b) P
+    (λ x st frame act h f p.
+    let q = both-true (not (isWrite b (deedOf act))) _ f in
+    let r = both-true (not (isTransfer b (deedOf act)) || x .1 .0) _ (q .1) in
+    step b v a (x .1 .0) (x .1 .1) st frame p act h (q .0) (r .0))
+    (tt, (false, opened)) (begin image) events
+    (beside-always nothingNoted (beside (ownLoad b) (booked b)) (unwrittenTest b) (both (ownLoad b) (booked b) (ownTest b) (noTest b)) tt (false, opened) (begin image) events unwritten passed)
+    start in
+    (t .value, t .here, t .sum ∙ ap (λ (k : Books). signed v +ℤ k .sum) (books b (begin image) events))

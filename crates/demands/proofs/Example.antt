@@ -1,4 +1,4 @@
--- The example, by computation.
+-- The examples, by computation.
 -- Assumes nothing.
 use mathlib.Core.Path.{refl}
 use Rattle.layout.specs.Layout.{sectorsOf, blocksIn, blocksOf, hasSector, hasBlock, sectorOf, trailerOf, isTrailer, groupAt, groupOf}
@@ -15,24 +15,21 @@ use Rattle.judge.specs.Grant.{writableBy, trailerGrant, grantOf}
 use Rattle.judge.specs.Judge.{totalFor, loadOf, appliedOf, moveOf, shownAs, storedAs, doneOf, commandedOf, judgeOf}
 use Rattle.card.specs.Effects.{numberOf, refusedSign, signOf, replyOf, sessionOf, imageOf}
 use Rattle.card.specs.Step.{answered, answerOf, imageAfter}
-use Rattle.play.specs.Run.{eventAnswer, eventImage, answersOf, runImage}
-use Rattle.demands.specs.Demand3.{actOf, booksAfter}
-use Rattle.demands.specs.Sealed.{sentSession, sentImage, sentRunImage, sentAct}
-use Rattle.demands.specs.OneWay.{trailerKept}
-use Rattle.demands.specs.Example.{purseCard, events, rideCard, rideEvents, NotEmpty}
+use Rattle.checksum.specs.Checksum as checksum
+use Rattle.sealed.specs.Sealed.{innerOf, sealIn, unsealed, sealedActOf, sealedReply, sealedOf, sealedAnswerOf, sealedImageAfter}
+use Rattle.runs.specs.Run.{answerTo, imageUpon, after, runOf, answersOf, actOf}
+use Rattle.runs.specs.Watch.{noted, always}
+use Rattle.demands.specs.Example.{purseCard, purseEvents, PurseRun, largeCard, largeEvents, LargeRun, rideCard, rideEvents, RideRun}
 
-pub not-empty : NotEmpty
-unfolding sectorsOf blocksIn blocksOf hasSector hasBlock sectorOf trailerOf isTrailer groupAt groupOf sixteenOf contentOf storeOf accessBytesOf wellFormed bitOf groupBits bitsOf dataTable trailerTable dataRow trailerRow allowsOf keysFor mayOf writableOf readableOf muteOf encodeOf decodeOf agreeing totalOf isNegative ruledOf coherentOf inSector byteIn eightOf twoOf firstOf commandOf first ruled noCard incoherent noBlock otherSector isBlocked isKey wrongKey isForbidden trailerRight rightOf hasRight noRight noValue kindColumn memoryChecks checksOf authenticateChecks frameChecks writableBy trailerGrant grantOf totalFor loadOf appliedOf moveOf shownAs storedAs doneOf commandedOf judgeOf numberOf refusedSign signOf replyOf sessionOf imageOf answered answerOf imageAfter eventAnswer eventImage answersOf runImage actOf booksAfter purseCard events sentSession sentImage sentRunImage sentAct trailerKept rideCard rideEvents
-not-empty =
-    record {
-      begins = refl;
-      fair = refl;
-      numbers = refl;
-      counted = refl;
-      ends = refl;
-      written = refl;
-      rides = record { opened = refl; first = refl; second = refl; third = refl };
-      kept = refl;
-      largest = refl;
-      risen = refl;
-    }
+pub purse-run : PurseRun
+unfolding sectorsOf blocksIn blocksOf hasSector hasBlock sectorOf trailerOf isTrailer groupAt groupOf sixteenOf contentOf storeOf accessBytesOf wellFormed bitOf groupBits bitsOf dataTable trailerTable dataRow trailerRow allowsOf keysFor mayOf writableOf readableOf muteOf encodeOf decodeOf agreeing totalOf isNegative ruledOf coherentOf inSector byteIn eightOf twoOf firstOf commandOf first ruled noCard incoherent noBlock otherSector isBlocked isKey wrongKey isForbidden trailerRight rightOf hasRight noRight noValue kindColumn memoryChecks checksOf authenticateChecks frameChecks writableBy trailerGrant grantOf totalFor loadOf appliedOf moveOf shownAs storedAs doneOf commandedOf judgeOf numberOf refusedSign signOf replyOf sessionOf imageOf answered answerOf imageAfter checksum.shifted checksum.shifts checksum.byteOn checksum.bytesOn checksum.crcOf checksum.twoOf innerOf sealIn unsealed sealedActOf sealedReply sealedOf sealedAnswerOf sealedImageAfter answerTo imageUpon after runOf answersOf actOf noted always purseCard purseEvents
+purse-run = record { begins = refl; unwritten = refl; own = refl; answered = refl; counted = refl; ends = refl }
+
+pub large-run : LargeRun
+unfolding sectorsOf blocksIn blocksOf hasSector hasBlock sectorOf trailerOf isTrailer groupAt groupOf sixteenOf contentOf storeOf accessBytesOf wellFormed bitOf groupBits bitsOf dataTable trailerTable dataRow trailerRow allowsOf keysFor mayOf writableOf readableOf muteOf encodeOf decodeOf agreeing totalOf isNegative ruledOf coherentOf inSector byteIn eightOf twoOf firstOf commandOf first ruled noCard incoherent noBlock otherSector isBlocked isKey wrongKey isForbidden trailerRight rightOf hasRight noRight noValue kindColumn memoryChecks checksOf authenticateChecks frameChecks writableBy trailerGrant grantOf totalFor loadOf appliedOf moveOf shownAs storedAs doneOf commandedOf judgeOf numberOf refusedSign signOf replyOf sessionOf imageOf answered answerOf imageAfter checksum.shifted checksum.shifts checksum.byteOn checksum.bytesOn checksum.crcOf checksum.twoOf innerOf sealIn unsealed sealedActOf sealedReply sealedOf sealedAnswerOf sealedImageAfter answerTo imageUpon after runOf answersOf actOf noted always largeCard largeEvents
+large-run = record { begins = refl; unwritten = refl; own = refl; answered = refl; counted = refl; ends = refl }
+
+pub ride-run : RideRun
+unfolding sectorsOf blocksIn blocksOf hasSector hasBlock sectorOf trailerOf isTrailer groupAt groupOf sixteenOf contentOf storeOf accessBytesOf wellFormed bitOf groupBits bitsOf dataTable trailerTable dataRow trailerRow allowsOf keysFor mayOf writableOf readableOf muteOf encodeOf decodeOf agreeing totalOf isNegative ruledOf coherentOf inSector byteIn eightOf twoOf firstOf commandOf first ruled noCard incoherent noBlock otherSector isBlocked isKey wrongKey isForbidden trailerRight rightOf hasRight noRight noValue kindColumn memoryChecks checksOf authenticateChecks frameChecks writableBy trailerGrant grantOf totalFor loadOf appliedOf moveOf shownAs storedAs doneOf commandedOf judgeOf numberOf refusedSign signOf replyOf sessionOf imageOf answered answerOf imageAfter checksum.shifted checksum.shifts checksum.byteOn checksum.bytesOn checksum.crcOf checksum.twoOf innerOf sealIn unsealed sealedActOf sealedReply sealedOf sealedAnswerOf sealedImageAfter answerTo imageUpon after runOf answersOf actOf noted always rideCard rideEvents
+ride-run =
+    record { rides = record { opened = refl; first = refl; second = refl; third = refl }; unwritten = refl; answered = refl; largest = refl; risen = refl }

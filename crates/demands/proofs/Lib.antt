@@ -2,7 +2,6 @@ pub mod Starred
 pub mod Demand1
 pub mod Demand2
 pub mod Demand3
-pub mod Sealed
 pub mod Order
 pub mod OneWay
 pub mod Example
@@ -23,3 +22,4 @@ pub mod OnePlay
 pub mod OneRecord
 pub mod OneBoard
 pub mod OneEdge
+pub mod Boundary

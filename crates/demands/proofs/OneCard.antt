@@ -8,7 +8,9 @@ use denote.Ref.{RefT, at-last}
 use Rattle.session.specs.declared.Session.{Session}
 use Rattle.card.specs.declared.Sign.{Sign}
 use Rattle.card.specs.declared.Answer.{Answer}
+use Rattle.judge.specs.declared.Act.{Act}
 use Rattle.card.proofs.step.Reads as step-contract
+use Rattle.card.proofs.enact.Reads as enact-contract
 use Rattle.card.proofs.field_reset.Reads as field-reset-contract
 use Rattle.card.proofs.no_session.Reads as no-session-contract
 use Rattle.card.proofs.refusal.Reads as refusal-contract
@@ -23,6 +25,14 @@ Meets κ κ′ image s frame r last = step-contract.Post (κ, (κ′, tt)) (imag
 pub step : (κ κ′ : Lft) (image : RefT (List ℕ)) (s : Session) (frame : RefT (List ℕ)) (r r′ : Answer) (last last′ : List ℕ)
     → Meets κ κ′ image s frame r last → Meets κ κ′ image s frame r′ last′ → (r ≡ r′) × (last ≡ last′)
 step κ κ′ image s frame r r′ last last′ p q = (p .0 ∙ sym (q .0), p .1 ∙ sym (q .1))
+
+-- the same for an act
+abbrev Enacted : Lft → Lft → RefT (List ℕ) → Session → Act → RefT (List ℕ) → Answer → List ℕ → Type 0
+Enacted κ κ′ image s act frame r last = enact-contract.Post (κ, (κ′, tt)) (image, (s, (act, (frame, tt)))) r (at-last image last, (s, (act, (frame, tt))))
+
+pub enact : (κ κ′ : Lft) (image : RefT (List ℕ)) (s : Session) (act : Act) (frame : RefT (List ℕ)) (r r′ : Answer) (last last′ : List ℕ)
+    → Enacted κ κ′ image s act frame r last → Enacted κ κ′ image s act frame r′ last′ → (r ≡ r′) × (last ≡ last′)
+enact κ κ′ image s act frame r r′ last last′ p q = (p .0 ∙ sym (q .0), p .1 ∙ sym (q .1))
 
 pub field-reset : OneResult (λ r. field-reset-contract.Post tt tt r tt)
 field-reset = exact

@@ -15,7 +15,7 @@ use Rattle.demands.proofs.Exact.{exact}
 
 module _ (κ₀ κ₁ κ₂ κ₃ : Lft) (image session frame reply : RefT (List ℕ)) where
   -- the number, and the image, the record and the reply afterwards
-  abbrev FrameMeets : ℕ → List ℕ → List ℕ → List ℕ → Type 0
+  abbrev pub FrameMeets : ℕ → List ℕ → List ℕ → List ℕ → Type 0
   FrameMeets r i s p =
       frame-contract.Post (κ₀, (κ₁, (κ₂, (κ₃, tt)))) (image, (session, (frame, (reply, tt)))) r
       (at-last image i, (at-last session s, (frame, (at-last reply p, tt))))
@@ -25,7 +25,7 @@ module _ (κ₀ κ₁ κ₂ κ₃ : Lft) (image session frame reply : RefT (List
       (m .0 ∙ sym (n .0), m .1 .1 .1 ∙ sym (n .1 .1 .1), m .1 .0 ∙ sym (n .1 .0), m .1 .1 .0 ∙ sym (n .1 .1 .0))
 
   -- the same with a checksum
-  abbrev SealedMeets : ℕ → List ℕ → List ℕ → List ℕ → Type 0
+  abbrev pub SealedMeets : ℕ → List ℕ → List ℕ → List ℕ → Type 0
   SealedMeets r i s p =
       sealed-contract.Post (κ₀, (κ₁, (κ₂, (κ₃, tt)))) (image, (session, (frame, (reply, tt)))) r
       (at-last image i, (at-last session s, (frame, (at-last reply p, tt))))
@@ -36,7 +36,7 @@ module _ (κ₀ κ₁ κ₂ κ₃ : Lft) (image session frame reply : RefT (List
 
 module _ (κ₀ κ₁ : Lft) (session reply : RefT (List ℕ)) where
   -- the number, and the record and the reply afterwards
-  abbrev ResetMeets : ℕ → List ℕ → List ℕ → Type 0
+  abbrev pub ResetMeets : ℕ → List ℕ → List ℕ → Type 0
   ResetMeets r s p = reset-contract.Post (κ₀, (κ₁, tt)) (session, (reply, tt)) r (at-last session s, (at-last reply p, tt))
 
   pub tirlwheel-field-reset : (r r′ : ℕ) (s s′ p p′ : List ℕ) → ResetMeets r s p → ResetMeets r′ s′ p′ → (r ≡ r′) × (s ≡ s′) × (p ≡ p′)
@@ -44,7 +44,7 @@ module _ (κ₀ κ₁ : Lft) (session reply : RefT (List ℕ)) where
 
 module _ (κ₀ κ₁ : Lft) (script printout : RefT (List ℕ)) where
   -- the length, and the buffer afterwards
-  abbrev PlayMeets : ℕ → List ℕ → Type 0
+  abbrev pub PlayMeets : ℕ → List ℕ → Type 0
   PlayMeets r last = play-contract.Post (κ₀, (κ₁, tt)) (script, (printout, tt)) r (script, (at-last printout last, tt))
 
   pub tirlwheel-play : (r r′ : ℕ) (last last′ : List ℕ) → PlayMeets r last → PlayMeets r′ last′ → (r ≡ r′) × (last ≡ last′)

@@ -9,6 +9,7 @@ use Rattle.script.proofs.image_size.Reads as image-size-contract
 use Rattle.script.proofs.image_of.Reads as image-of-contract
 use Rattle.script.proofs.event_count.Reads as event-count-contract
 use Rattle.script.proofs.events_start.Reads as events-start-contract
+use Rattle.script.proofs.event_refusal.Reads as event-refusal-contract
 use Rattle.script.proofs.next_at.Reads as next-at-contract
 use Rattle.script.proofs.refusal_of.Reads as refusal-of-contract
 use Rattle.demands.specs.One.{OneResult}
@@ -29,6 +30,9 @@ events-start κ script = exact
 
 pub next-at : (κ : Lft) (script : RefT (List ℕ)) (at : ℕ) → OneResult (λ r. next-at-contract.Post (κ, tt) (script, (at, tt)) r (script, (at, tt)))
 next-at κ script at = exact
+
+pub event-refusal : (κ : Lft) (script : RefT (List ℕ)) (at : ℕ) → OneResult (λ r. event-refusal-contract.Post (κ, tt) (script, (at, tt)) r (script, (at, tt)))
+event-refusal κ script at = exact
 
 pub refusal-of : (κ : Lft) (script : RefT (List ℕ)) → OneResult (λ r. refusal-of-contract.Post (κ, tt) (script, tt) r (script, tt))
 refusal-of κ script = exact

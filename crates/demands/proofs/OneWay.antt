@@ -1,21 +1,21 @@
 -- A ride card cannot gain rides: act by act, no value of the sector and no load from it exceeds the bound.
 -- Assumes nothing.
 use mathlib.Core.Path.{_≡_, refl, sym, _∙_, ap}
-use mathlib.Core.Bool.{Bool, true, false, not, _&&_, _||_, cond, false≢true}
-use mathlib.Core.List.{List, [], _∷_}
-use Prim.Native.Nat.{ℕ, _+_, _*_, _-_, _<_}
+use mathlib.Core.Bool.{Bool, true, false, not, _&&_, _||_, false≢true}
+use mathlib.Core.List.{List}
+use Prim.Native.Nat.{ℕ, _<_}
 use native.Mathlib.Omega.{arith}
-use lib.Dec.{eqb, ltb, leb}
+use lib.Dec.{eqb, ltb}
 use lib.IntN.{ℤ, pos, _-ℤ_}
 use lib.ListN.{length}
 use lib.Signed.{leZ}
-use borrow.Author.Tests.{eq-eqb, eqb-true, eqb-false, ltb-true, ltb-false, le-ltb}
-use Rattle.layout.specs.Layout.{sectorsOf, blocksIn, blocksOf, hasBlock, sectorOf, trailerOf, isTrailer, groupOf}
+use borrow.Author.Tests.{eq-eqb, eqb-true, eqb-false, ltb-true, ltb-false, le-ltb, not-true}
+use Rattle.layout.specs.Layout.{hasBlock, sectorOf, trailerOf, isTrailer, groupOf}
 use Rattle.layout.specs.declared.Block.{Block}
 use Rattle.layout.specs.declared.Sector.{Sector}
 use Rattle.layout.specs.declared.Group.{Group}
 use Rattle.layout.specs.declared.Group.the-variants.{First, Second, Third, Trailer}
-use Rattle.layout.proofs.Laws.{trailer-in-sector, group-trailer}
+use Rattle.layout.proofs.Laws.{trailer-in-sector, group-trailer, has-small}
 use Rattle.memory.specs.Memory.{contentOf, storeOf}
 use Rattle.memory.proofs.Laws.{store-back, store-other}
 use Rattle.access.specs.Bits.{groupBits}
@@ -40,21 +40,19 @@ use Rattle.session.specs.declared.Register.the-variants.{Empty, Full}
 use Rattle.session.specs.declared.Session.{Session}
 use Rattle.judge.specs.Checks.{accessOf, isForbidden, kindColumn, rightOf, hasRight, noRight}
 use Rattle.judge.specs.Grant.{writableBy}
-use Rattle.judge.specs.Judge.{totalFor, judgeOf}
+use Rattle.judge.specs.Judge.{totalFor}
 use Rattle.judge.specs.declared.Act.{Act}
 use Rattle.judge.specs.declared.Act.the-variants.{Refused, Authenticated, Shown, TrailerShown, WriteWaits, ValueWaits, Stored, TrailerStored, Loaded, Moved, Halted}
 use Rattle.card.specs.Effects.{sessionOf, imageOf}
+use Rattle.runs.specs.Run.{State, begin, runOf}
+use Rattle.runs.specs.Watch.{nothingNoted}
 use Rattle.laws.specs.Accepted.{Allowed, Load, Accepted}
-use Rattle.card.specs.Step.{answered, answerOf, imageAfter}
-use Rattle.sealed.specs.Sealed.{innerOf, unsealed, sealedOf, sealedAnswerOf, sealedImageAfter}
-use Rattle.sealed.proofs.Acts.{inner-act}
-use Rattle.laws.proofs.Sound.{sound}
 use Rattle.laws.proofs.Lengths.{sixteen-length, mixed-length}
 use Rattle.laws.proofs.Laws.{sectorAt, block-eq}
-use Rattle.demands.specs.Sealed.{Sent, reset, bare, sealed, sentSession, sentImage, sentSessionAfter, sentRunImage, sentAct}
-use Rattle.demands.specs.OneWay.{accessIn, RideSector, DataBlock, AtMost, writesTrailer, trailerKept, OneWay, NoneEver}
+use Rattle.laws.proofs.Keeps.{keeps}
+use Rattle.demands.specs.Demand3.{deedOf, isWrite}
+use Rattle.demands.specs.OneWay.{accessIn, RideSector, DataBlock, AtMost, OneWay, NoneEver}
 use Rattle.demands.proofs.Order.{lower, above-itself}
-use Rattle.demands.proofs.Sealed.{sealed-refused}
 
 -- a trailer is one, whatever sector it is asked of
 trailer-is : (t : Sector) → isTrailer (trailerOf t) ≡ true
@@ -64,16 +62,6 @@ trailer-is t = go (ltb (t .0) 40) refl
     go : (u : Bool) → ltb (t .0) 40 ≡ u → isTrailer (trailerOf t) ≡ true
     go true e = eq-eqb _ _ (ap (λ (n : ℕ). trailerOf (sectorAt n) .0) (trailer-in-sector t (ltb-true (t .0) 40 e)))
     go false e = let h = ltb-false (t .0) 40 e in rw (le-ltb (t .0) 32 (omega (arith, h)), e)
-
--- a block of an image has a byte for its address
-has-small : (bytes : ℕ) (b : Block) → hasBlock bytes b ≡ true → b .0 < 256
-unfolding hasBlock blocksOf sectorsOf blocksIn
-has-small bytes b = go (eqb bytes 1024) (eqb bytes 4096)
-  where
-    go : (x y : Bool) → ltb (b .0) (cond (leb (cond x 16 (cond y 40 0)) 32) (4 * cond x 16 (cond y 40 0)) (128 + 16 * (cond x 16 (cond y 40 0) - 32))) ≡ true → b .0 < 256
-    go true y h = let l : b .0 < 64 = ltb-true (b .0) 64 h in omega arith
-    go false true h = ltb-true (b .0) 256 h
-    go false false h = let l : b .0 < 0 = ltb-true (b .0) 0 h in omega arith
 
 -- under 001 no key may write or increment
 never-write : (l : Letter) → mayOf l column.Write 0b001 ≡ false
@@ -114,10 +102,6 @@ unfolding isForbidden kindColumn
 not-forbidden Increment z u e = or-false z u e
 not-forbidden Decrement z u e = or-false z u e
 not-forbidden Restore z u e = or-false z u e
-
-not-and : (x y : Bool) → (not x && y) ≡ true → (x ≡ false) × (y ≡ true)
-not-and false y e = (refl, e)
-not-and true y e = (sym e, absurd (false≢true e))
 
 agreed : (block : List ℕ) → agreeing block ≡ true → decodeOf block ≡ Value (bitsIn block) (addressIn block)
 unfolding decodeOf
@@ -232,7 +216,7 @@ module _ (t : Sector) (top : ℤ) where
             let v-is : x ≡ v = cc in
             rw (← v-is) (h .0)
 
-    step : (act : Act) → Accepted image s frame act → writesTrailer t act ≡ false → Safe (imageOf image (s .auth) act frame) (sessionOf s act)
+    step : (act : Act) → Accepted image s frame act → isWrite (trailerOf t) (deedOf act) ≡ false → Safe (imageOf image (s .auth) act frame) (sessionOf s act)
     unfolding imageOf sessionOf
     step (Refused n) h k = emptied image freshOf refl refl
     step (Authenticated u l) h k = emptied image _ refl refl
@@ -248,33 +232,18 @@ module _ (t : Sector) (top : ℤ) where
     step (Moved c x d) h k = moved c x d (h .1) (h .2)
     step Halted h k = emptied image freshOf refl refl
 
-  -- an event at either entry
-  sent-step : (image : List ℕ) (s : Session) → Safe image s → (e : Sent) → writesTrailer t (sentAct image s e) ≡ false → Safe (sentImage image s e) (sentSession image s e)
-  unfolding sentImage sentSession sentAct answerOf answered imageAfter sealedAnswerOf sealedImageAfter sealedOf sessionOf imageOf
-  sent-step image s safe reset k = emptied image s [] safe image freshOf refl refl
-  sent-step image s safe (bare frame) k = step image s frame safe (judgeOf image s frame) (sound image s frame) k
-  sent-step image s safe (sealed frame) k = go (unsealed frame) refl
-    where
-      go : (u : Bool) → unsealed frame ≡ u → Safe (sentImage image s (sealed frame)) (sentSession image s (sealed frame))
-      go true u = let r = sealed-refused image s frame u .1 in rw r (emptied image s [] safe image freshOf refl refl)
-      go false u =
-          let i = inner-act image s frame u in
-          rw i (step image s (innerOf frame) safe (judgeOf image s (innerOf frame)) (sound image s (innerOf frame)) (rw i at k))
-
-  run : (image : List ℕ) (s : Session) → Safe image s → (events : List Sent) → trailerKept t image s events ≡ true → Safe (sentRunImage image s events) (sentSessionAfter image s events)
-  unfolding trailerKept sentRunImage sentSessionAfter
-  run image s safe [] k = safe
-  run image s safe (e ∷ es) k = let n = not-and (writesTrailer t (sentAct image s e)) _ k in run _ _ (sent-step image s safe e (n .0)) es (n .1)
-
 pub one-way : OneWay
 one-way image t top ride below events k =
-    let start : Safe t top image freshOf = record { ride = ride; below = below; held = λ l v a e f. absurd (full-empty v a (sym f)) } in
-    run t top image freshOf start events k .below
+    let P : Unit {0} → State → Type 0 = λ x st. Safe t top (st .image) (st .session) in
+    let start : P tt (begin image) = record { ride = ride; below = below; held = λ l v a e f. absurd (full-empty v a (sym f)) } in
+    keeps nothingNoted (λ x st frame act. not (isWrite (trailerOf t) (deedOf act))) P
+    (λ x st frame act h f safe. step t top (st .image) (st .session) frame safe act h (not-true _ f))
+    tt (begin image) events k start .below
 
 pub none-ever : NoneEver
-none-ever image t ride none events k b d = go (decodeOf (contentOf (sentRunImage image freshOf events) b)) refl
+none-ever image t ride none events k b d = go (decodeOf (contentOf (runOf (begin image) events .image) b)) refl
   where
-    go : (r : Decoded) → decodeOf (contentOf (sentRunImage image freshOf events) b) ≡ r → r ≡ NoValue
+    go : (r : Decoded) → decodeOf (contentOf (runOf (begin image) events .image) b) ≡ r → r ≡ NoValue
     go NoValue e = refl
     go (Value v a) e =
         let start : AtMost (signed v -ℤ pos 1) image t = λ c f w g q. absurd (value-none w g (sym q ∙ none c f)) in

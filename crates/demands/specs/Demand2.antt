@@ -1,14 +1,16 @@
 -- Demand 2: value blocks there and back, and a run whose every answer, session and image are those of the definition.
 use mathlib.Core.Path.{_≡_}
-use mathlib.Core.Bool.{true}
-use mathlib.Core.List.{List, [], _∷_, _++_}
+use mathlib.Core.Bool.{true, false, cond}
+use mathlib.Core.List.{List, [], _∷_, _++_, map}
 use Prim.Native.Nat.{ℕ}
 use lib.IntN.{ℤ}
 use Rattle.value.specs.Whole.{signed, inRange}
 use Rattle.value.specs.Block.{encodeOf, decodeOf}
 use Rattle.value.specs.declared.block.Decoded.the-variants.{Value}
 use Rattle.session.specs.declared.Session.{Session}
-use Rattle.play.specs.Run.{eventAnswer, eventImage, answersOf, sessionAfter, runImage}
+use Rattle.card.specs.Step.{answerOf, imageAfter}
+use Rattle.sealed.specs.Sealed.{innerOf, unsealed, sealedOf, sealedAnswerOf, sealedImageAfter}
+use Rattle.runs.specs.Run.{State, Sent, reset, bare, sealed, answerTo, after, runOf, answersOf}
 
 -- every value in range and every address byte, written as a value block, read back
 abbrev pub ReadsBack : ℤ → ℕ → Type 0
@@ -18,11 +20,24 @@ ReadsBack value address = inRange value ≡ true → (v : ℕ) × (decodeOf (enc
 abbrev pub Rewritten : List ℕ → Type 0
 Rewritten block = (v address : ℕ) → decodeOf block ≡ Value v address → encodeOf (signed v) address ≡ block
 
--- any event of any run: what comes before it fixes the session and the image that it meets, and these fix its answer and what it leaves
-pub record EventByEvent (image : List ℕ) (s : Session) (past : List (List ℕ)) (event : List ℕ) (future : List (List ℕ)) : Type 0 where
+-- any event of any run, through either entry: what comes before it fixes the state that it meets, and that fixes its answer and what it leaves
+pub record EventByEvent (st : State) (past : List Sent) (event : Sent) (future : List Sent) : Type 0 where
   pub answers :
-      answersOf image s (past ++ (event ∷ future))
-      ≡ answersOf image s past
-      ++ (eventAnswer (runImage image s past) (sessionAfter image s past) event ∷ answersOf (runImage image s (past ++ (event ∷ []))) (sessionAfter image s (past ++ (event ∷ []))) future)
-  pub session : sessionAfter image s (past ++ (event ∷ [])) ≡ eventAnswer (runImage image s past) (sessionAfter image s past) event .session
-  pub image-after : runImage image s (past ++ (event ∷ [])) ≡ eventImage (runImage image s past) (sessionAfter image s past) event
+      answersOf st (past ++ (event ∷ future)) ≡ answersOf st past ++ (answerTo (runOf st past) event ∷ answersOf (runOf st (past ++ (event ∷ []))) future)
+  pub left : runOf st (past ++ (event ∷ [])) ≡ after (runOf st past) event
+
+-- past 14 a frame with its checksum gets the bare answer to the inner bytes, with its reply extended, and leaves the same image
+abbrev pub AsBare : List ℕ → Session → List ℕ → Type 0
+AsBare image s frame =
+    unsealed frame ≡ false
+    → (sealedAnswerOf image s frame ≡ sealedOf (answerOf image s (innerOf frame))) × (sealedImageAfter image s frame ≡ imageAfter image s (innerOf frame))
+
+-- the bare event that leaves the same: the inner bytes; a refusal with 14 leaves what a field reset leaves
+abbrev pub bareOf : Sent → Sent
+bareOf reset = reset
+bareOf (bare frame) = bare frame
+bareOf (sealed frame) = cond (unsealed frame) reset (bare (innerOf frame))
+
+-- so a run through both entries leaves what a bare run leaves
+abbrev pub SameRun : Type 0
+SameRun = (st : State) (events : List Sent) → runOf st events ≡ runOf st (map bareOf events)

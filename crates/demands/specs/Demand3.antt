@@ -1,40 +1,92 @@
 -- Demand 3: a block that begins as a value block keeps its count.
 use mathlib.Core.Path.{_≡_}
-use mathlib.Core.Bool.{Bool, true, false, not, _&&_, cond}
-use mathlib.Core.List.{List, [], _∷_, _++_}
+use mathlib.Core.Bool.{Bool, true, false, not, _||_, cond}
+use mathlib.Core.List.{List}
 use Prim.Native.Nat.{ℕ}
 use lib.Dec.{eqb}
 use lib.IntN.{ℤ, pos, negℤ, _+ℤ_}
-use lib.ListN.{length}
 use Rattle.layout.specs.declared.Block.{Block}
 use Rattle.memory.specs.Memory.{contentOf}
 use Rattle.value.specs.Whole.{signed}
 use Rattle.value.specs.Block.{decodeOf, bitsIn}
 use Rattle.value.specs.declared.block.Decoded.the-variants.{Value}
-use Rattle.session.specs.Session.{freshOf}
 use Rattle.session.specs.declared.Kind.{Kind}
 use Rattle.session.specs.declared.Kind.the-variants.{Increment, Decrement, Restore}
 use Rattle.session.specs.declared.Stage.{Stage}
 use Rattle.session.specs.declared.Stage.the-variants as stage
-use Rattle.session.specs.declared.Session.{Session}
-use Rattle.judge.specs.Judge.{judgeOf}
 use Rattle.judge.specs.declared.Act.{Act}
 use Rattle.judge.specs.declared.Act.the-variants.{Refused, Authenticated, Shown, TrailerShown, WriteWaits, ValueWaits, Stored, TrailerStored, Loaded, Moved, Halted}
-use Rattle.play.specs.Run.{eventAnswer, eventImage, runImage}
+use Rattle.runs.specs.Run.{State, begin, Sent, runOf}
+use Rattle.runs.specs.Watch.{noted, always, everyAct}
 
--- what the register holds for the block: nothing of it; or a load from it, with its change, and whether that was counted
-pub data Held : Type 0 where
-  foreign : Held
-  load : ℤ → Bool → Held
+-- what an act is to the count of a block: an accepted Write, or Transfer, into some block; a load; the register emptied; or nothing
+pub data Deed : Type 0 where
+  written : Block → Deed
+  transferred : Block → Deed
+  loaded : Deed
+  emptied : Deed
+  nothing : Deed
 
--- the block's books: what is held, the sum of the changes counted so far, and whether all was fair: no Write into the block, and no Transfer into it but of a load from it
+abbrev pub deedOf : Act → Deed
+deedOf (Refused n) = emptied
+deedOf (Authenticated t l) = emptied
+deedOf (Shown c) = nothing
+deedOf (TrailerShown c m) = nothing
+deedOf (WriteWaits c) = nothing
+deedOf (ValueWaits c k) = nothing
+deedOf (Stored c) = written c
+deedOf (TrailerStored c m) = written c
+deedOf (Loaded v a) = loaded
+deedOf (Moved c v a) = transferred c
+deedOf Halted = emptied
+
+-- an accepted Write into the block; an accepted Transfer into it
+abbrev pub isWrite : Block → Deed → Bool
+isWrite b (written c) = eqb (c .0) (b .0)
+isWrite b (transferred c) = false
+isWrite b loaded = false
+isWrite b emptied = false
+isWrite b nothing = false
+
+abbrev pub isTransfer : Block → Deed → Bool
+isTransfer b (written c) = false
+isTransfer b (transferred c) = eqb (c .0) (b .0)
+isTransfer b loaded = false
+isTransfer b emptied = false
+isTransfer b nothing = false
+
+-- a load comes from the block whose second frame was awaited
+abbrev pub awaitedOf : Block → Stage → Bool
+awaitedOf b stage.Idle = false
+awaitedOf b (stage.WriteWaits c) = false
+awaitedOf b (stage.ValueWaits k c) = eqb (c .0) (b .0)
+
+-- noted along a run: whether the register holds a load from the block
+abbrev pub ownAfter : Block → Bool → Stage → Deed → Bool
+ownAfter b own w (written c) = own
+ownAfter b own w (transferred c) = own
+ownAfter b own w loaded = awaitedOf b w
+ownAfter b own w emptied = false
+ownAfter b own w nothing = own
+
+abbrev pub ownLoad : Block → Bool → State → List ℕ → Act → Bool
+ownLoad b own st frame act = ownAfter b own (st .session .stage) (deedOf act)
+
+-- the premise: the block receives no accepted Write, and accepted Transfers only of loads from itself
+abbrev pub NotWritten : Block → State → List Sent → Type 0
+NotWritten b st events = everyAct (λ act. not (isWrite b (deedOf act))) st events ≡ true
+
+abbrev pub OwnTransfers : Block → State → List Sent → Type 0
+OwnTransfers b st events = always (ownLoad b) (λ own st frame act. not (isTransfer b (deedOf act)) || own) false st events ≡ true
+
+-- the books: what the last load changes, whether it has been counted, and the sum of what was
 pub record Books : Type 0 where
-  pub held : Held
-  pub counted : ℤ
-  pub fair : Bool
+  pub change : ℤ
+  pub counted : Bool
+  pub sum : ℤ
 
 abbrev pub opened : Books
-opened = record { held = foreign; counted = pos 0; fair = true }
+opened = record { change = pos 0; counted = true; sum = pos 0 }
 
 -- the change that the second frame of a value operation asks for
 abbrev pub changeOf : Kind → List ℕ → ℤ
@@ -42,52 +94,29 @@ changeOf Increment frame = signed (bitsIn frame)
 changeOf Decrement frame = negℤ (signed (bitsIn frame))
 changeOf Restore frame = pos 0
 
--- what that frame loads: something of the block's where the block is the source, not counted yet
-abbrev pub loadFor : Block → Stage → List ℕ → Held
-loadFor b stage.Idle frame = foreign
-loadFor b (stage.WriteWaits c) frame = foreign
-loadFor b (stage.ValueWaits k c) frame = cond (eqb (c .0) (b .0)) (load (changeOf k frame) false) foreign
+abbrev pub changeBy : Stage → List ℕ → ℤ
+changeBy stage.Idle frame = pos 0
+changeBy (stage.WriteWaits c) frame = pos 0
+changeBy (stage.ValueWaits k c) frame = changeOf k frame
 
--- a Transfer into the block counts the load that it brings, the first time only
-abbrev pub transferred : Held → Books → Books
-transferred foreign k = record { held = foreign; counted = k .counted; fair = false }
-transferred (load change true) k = k
-transferred (load change false) k = record { held = load change true; counted = k .counted +ℤ change; fair = k .fair }
+-- a load is counted at its first Transfer into the block
+abbrev pub settled : Books → Books
+settled k = record { change = k .change; counted = true; sum = cond (k .counted) (k .sum) (k .sum +ℤ k .change) }
 
--- a Write into the block is not fair
-abbrev pub written : Block → Block → Books → Books
-written b c k = record { held = k .held; counted = k .counted; fair = k .fair && not (eqb (c .0) (b .0)) }
+abbrev pub entered : Block → Books → Stage → List ℕ → Deed → Books
+entered b k w frame (written c) = k
+entered b k w frame (transferred c) = cond (eqb (c .0) (b .0)) (settled k) k
+entered b k w frame loaded = record { change = changeBy w frame; counted = false; sum = k .sum }
+entered b k w frame emptied = k
+entered b k w frame nothing = k
 
-abbrev pub holding : Held → Books → Books
-holding h k = record { held = h; counted = k .counted; fair = k .fair }
+abbrev pub booked : Block → Books → State → List ℕ → Act → Books
+booked b k st frame act = entered b k (st .session .stage) frame (deedOf act)
 
--- the books after an act that the session s met: what empties the register forgets the load, a new load replaces it
-abbrev pub booked : Block → Session → List ℕ → Act → Books → Books
-booked b s frame (Refused n) k = holding foreign k
-booked b s frame (Authenticated t l) k = holding foreign k
-booked b s frame (Shown c) k = k
-booked b s frame (TrailerShown c m) k = k
-booked b s frame (WriteWaits c) k = k
-booked b s frame (ValueWaits c j) k = k
-booked b s frame (Stored c) k = written b c k
-booked b s frame (TrailerStored c m) k = written b c k
-booked b s frame (Loaded v a) k = holding (loadFor b (s .stage) frame) k
-booked b s frame (Moved c v a) k = cond (eqb (c .0) (b .0)) (transferred (k .held) k) k
-booked b s frame Halted k = holding foreign k
-
--- the act of an event; a field reset empties the register as a Halt does
-unfoldable pub actOf : List ℕ → Session → List ℕ → Act
-actOf image s event = cond (eqb (length event) 0) Halted (judgeOf image s event)
-
--- the books after some events of the run
-unfoldable pub booksAfter : Block → List ℕ → Session → Books → List (List ℕ) → Books
-booksAfter b image s k [] = k
-booksAfter b image s k (e ∷ es) = booksAfter b (eventImage image s e) (eventAnswer image s e .session) (booked b s e (actOf image s e) k) es
-
--- after any part of a fair run from a fresh session the block is a value block, with the same address byte, and its value is the first one plus what was counted
+-- after any such run from a fresh session the block is a value block, with the same address byte, and its value is the first one plus what was counted
 abbrev pub Demand3 : Type 0
 Demand3 =
     (image : List ℕ) (b : Block) (v a : ℕ) → decodeOf (contentOf image b) ≡ Value v a
-    → (past future : List (List ℕ)) → booksAfter b image freshOf opened (past ++ future) .fair ≡ true
-    → (w : ℕ) × (decodeOf (contentOf (runImage image freshOf past) b) ≡ Value w a)
-    × (signed w ≡ signed v +ℤ booksAfter b image freshOf opened past .counted)
+    → (events : List Sent) → NotWritten b (begin image) events → OwnTransfers b (begin image) events
+    → (w : ℕ) × (decodeOf (contentOf (runOf (begin image) events .image) b) ≡ Value w a)
+    × (signed w ≡ signed v +ℤ noted (booked b) opened (begin image) events .sum)

@@ -1,98 +1,139 @@
--- Runs that meet the premises. Of demand 3: a load transferred twice, a load refused, another block written, and a second load transferred. Of a ride card: a decrement of -50 refused, and a load
--- transferred into another block.
+-- Runs that meet the premises, with the numbers of their answers. Of demand 3: a load transferred twice, one refused for its range, a wrong checksum, another block written, a second load; and on a
+-- 4K card a Restore, a field reset and a Halt. Of a ride card: a decrement of -50 refused and the Transfer after it too, and a load transferred into another block.
 use mathlib.Core.Path.{_≡_}
-use mathlib.Core.Bool.{true}
 use mathlib.Core.List.{List, [], _∷_, _++_, map}
 use Prim.Native.Nat.{ℕ, zero, suc}
-use lib.IntN.{pos}
+use lib.IntN.{ℤ, pos, negsuc}
 use lib.ListN.{replicate}
+use Rattle.layout.specs.Layout.{trailerOf}
 use Rattle.layout.specs.declared.Block.{Block}
 use Rattle.layout.specs.declared.Sector.{Sector}
 use Rattle.memory.specs.Memory.{contentOf}
 use Rattle.value.specs.Block.{encodeOf, decodeOf}
 use Rattle.value.specs.declared.block.Decoded.the-variants.{Value}
-use Rattle.session.specs.Session.{freshOf}
 use Rattle.card.specs.declared.Answer.{Answer}
-use Rattle.play.specs.Run.{answersOf, runImage}
-use Rattle.demands.specs.Demand3.{opened, booksAfter}
-use Rattle.demands.specs.Sealed.{Sent, bare, sentRunImage}
-use Rattle.demands.specs.OneWay.{RideSector, trailerKept}
+use Rattle.checksum.specs.Checksum.{crcOf, twoOf}
+use Rattle.runs.specs.Run.{begin, Sent, reset, bare, sealed, runOf, answersOf}
+use Rattle.runs.specs.Watch.{noted}
+use Rattle.demands.specs.Demand3.{NotWritten, OwnTransfers, opened, booked}
+use Rattle.demands.specs.OneWay.{RideSector}
 
--- both keys FF six times, transport configuration
+-- a frame with its checksum
+abbrev pub withChecksum : List ℕ → Sent
+withChecksum bytes = sealed (bytes ++ twoOf (crcOf bytes))
+
+-- both keys FF six times, and these access bytes
+abbrev pub trailerWith : List ℕ → List ℕ
+trailerWith bits = replicate 6 0xFF ++ (bits ++ (0x69 ∷ replicate 6 0xFF))
+
+-- the transport configuration
 abbrev pub transport : List ℕ
-transport = replicate 6 0xFF ++ (0xFF ∷ 0x07 ∷ 0x80 ∷ 0x69 ∷ replicate 6 0xFF)
-
-abbrev pub blankSector : List ℕ
-blankSector = replicate 48 0 ++ transport
+transport = trailerWith (0xFF ∷ 0x07 ∷ 0x80 ∷ [])
 
 abbrev pub blankSectors : ℕ → List ℕ
 blankSectors zero = []
-blankSectors (suc n) = blankSector ++ blankSectors n
+blankSectors (suc n) = replicate 48 0 ++ (transport ++ blankSectors n)
+
+abbrev pub blockNo : ℕ → Block
+blockNo n = record { 0 = n }
+
+-- authenticate with key A for a block
+abbrev pub login : ℕ → List ℕ
+login b = 0x60 ∷ b ∷ replicate 6 0xFF
+
+-- a run in which a block counts from v to w
+pub record CountedRun (image : List ℕ) (b : Block) (v w a : ℕ) (change : ℤ) (events : List Sent) (numbers : List ℕ) : Type 0 where
+  pub begins : decodeOf (contentOf image b) ≡ Value v a
+  pub unwritten : NotWritten b (begin image) events
+  pub own : OwnTransfers b (begin image) events
+  pub answered : map (λ (x : Answer). x .number) (answersOf (begin image) events) ≡ numbers
+  pub counted : noted (booked b) opened (begin image) events .sum ≡ change
+  pub ends : decodeOf (contentOf (runOf (begin image) events .image) b) ≡ Value w a
 
 -- a 1K card whose block 4 holds 100 with address byte 4
 unfoldable pub purseCard : List ℕ
-purseCard = blankSector ++ ((encodeOf (pos 100) 4 ++ (replicate 32 0 ++ transport)) ++ blankSectors 14)
+purseCard = blankSectors 1 ++ ((encodeOf (pos 100) 4 ++ (replicate 32 0 ++ transport)) ++ blankSectors 14)
 
-abbrev pub purse : Block
-purse = record { 0 = 4 }
-
-abbrev pub other : Block
-other = record { 0 = 5 }
-
--- what is written beside the purse
-abbrev pub rideRecord : List ℕ
-rideRecord = 1 ∷ 2 ∷ 3 ∷ 4 ∷ 5 ∷ 6 ∷ 7 ∷ 8 ∷ 9 ∷ 10 ∷ 11 ∷ 12 ∷ 13 ∷ 14 ∷ 15 ∷ 16 ∷ []
-
-unfoldable pub events : List (List ℕ)
-events =
-    -- authenticate, increment by 5, transfer twice
-    (0x60 ∷ 4 ∷ replicate 6 0xFF)
-    ∷ (0xC1 ∷ 4 ∷ [])
-    ∷ (5 ∷ 0 ∷ 0 ∷ 0 ∷ [])
-    ∷ (0xB0 ∷ 4 ∷ [])
-    ∷ (0xB0 ∷ 4 ∷ [])
-    -- an increment by 2,147,483,647 leaves the range
-    ∷ (0xC1 ∷ 4 ∷ [])
-    ∷ (0xFF ∷ 0xFF ∷ 0xFF ∷ 0x7F ∷ [])
-    -- authenticate again, write the block beside it, decrement by 3, transfer
-    ∷ (0x60 ∷ 4 ∷ replicate 6 0xFF)
-    ∷ (0xA0 ∷ 5 ∷ [])
-    ∷ rideRecord
-    ∷ (0xC0 ∷ 4 ∷ [])
-    ∷ (3 ∷ 0 ∷ 0 ∷ 0 ∷ [])
-    ∷ (0xB0 ∷ 4 ∷ [])
+unfoldable pub purseEvents : List Sent
+purseEvents =
+    -- increment by 5, transfer twice
+    withChecksum (login 4)
+    ∷ bare (0xC1 ∷ 4 ∷ [])
+    ∷ withChecksum (5 ∷ 0 ∷ 0 ∷ 0 ∷ [])
+    ∷ bare (0xB0 ∷ 4 ∷ [])
+    ∷ withChecksum (0xB0 ∷ 4 ∷ [])
+    -- an increment by 2,147,483,647 leaves the range; a wrong checksum
+    ∷ bare (0xC1 ∷ 4 ∷ [])
+    ∷ bare (0xFF ∷ 0xFF ∷ 0xFF ∷ 0x7F ∷ [])
+    ∷ sealed (0x30 ∷ 4 ∷ 0 ∷ 0 ∷ [])
+    -- write the block beside it, decrement by 3, transfer
+    ∷ bare (login 4)
+    ∷ bare (0xA0 ∷ 5 ∷ [])
+    ∷ withChecksum (replicate 16 0x11)
+    ∷ bare (0xC0 ∷ 4 ∷ [])
+    ∷ bare (3 ∷ 0 ∷ 0 ∷ 0 ∷ [])
+    ∷ bare (0xB0 ∷ 4 ∷ [])
     ∷ []
 
--- a 1K card whose sector 1 has the bits 001 throughout, with 50 in block 4 and 30 in block 5
-abbrev pub oneWayTrailer : List ℕ
-oneWayTrailer = replicate 6 0xFF ++ (0xFF ∷ 0x00 ∷ 0xF0 ∷ 0x69 ∷ replicate 6 0xFF)
+abbrev pub PurseRun : Type 0
+PurseRun = CountedRun purseCard (blockNo 4) 100 102 4 (pos 2) purseEvents (0 ∷ 0 ∷ 0 ∷ 0 ∷ 0 ∷ 0 ∷ 10 ∷ 14 ∷ 0 ∷ 0 ∷ 0 ∷ 0 ∷ 0 ∷ 0 ∷ [])
 
+-- a 4K card whose block 129, in its first large sector, holds 7 with address byte 200
+unfoldable pub largeCard : List ℕ
+largeCard = blankSectors 32 ++ (replicate 16 0 ++ (encodeOf (pos 7) 200 ++ (replicate 208 0 ++ (transport ++ replicate 1792 0))))
+
+unfoldable pub largeEvents : List Sent
+largeEvents =
+    -- a Restore, whatever its operand, transferred into its own block and into another
+    bare (login 129)
+    ∷ bare (0xC2 ∷ 129 ∷ [])
+    ∷ bare (0xFF ∷ 0xFF ∷ 0xFF ∷ 0xFF ∷ [])
+    ∷ withChecksum (0xB0 ∷ 129 ∷ [])
+    ∷ bare (0xB0 ∷ 130 ∷ [])
+    -- after a field reset nothing is left to transfer
+    ∷ reset
+    ∷ bare (0xB0 ∷ 129 ∷ [])
+    -- decrement by 2, and a Halt before the Transfer; then with it
+    ∷ bare (login 129)
+    ∷ bare (0xC0 ∷ 129 ∷ [])
+    ∷ bare (2 ∷ 0 ∷ 0 ∷ 0 ∷ [])
+    ∷ withChecksum (0x50 ∷ 0 ∷ [])
+    ∷ bare (0xB0 ∷ 129 ∷ [])
+    ∷ bare (login 129)
+    ∷ bare (0xC0 ∷ 129 ∷ [])
+    ∷ bare (2 ∷ 0 ∷ 0 ∷ 0 ∷ [])
+    ∷ bare (0xB0 ∷ 129 ∷ [])
+    ∷ []
+
+abbrev pub LargeRun : Type 0
+LargeRun = CountedRun largeCard (blockNo 129) 7 5 200 (negsuc 1) largeEvents (0 ∷ 0 ∷ 0 ∷ 0 ∷ 0 ∷ 0 ∷ 3 ∷ 0 ∷ 0 ∷ 0 ∷ 0 ∷ 3 ∷ 0 ∷ 0 ∷ 0 ∷ 0 ∷ [])
+
+-- a 1K card whose sector 1 has the bits 001 throughout, with 50 in block 4 and 30 in block 5
 unfoldable pub rideCard : List ℕ
-rideCard = blankSector ++ ((encodeOf (pos 50) 4 ++ (encodeOf (pos 30) 5 ++ (replicate 16 0 ++ oneWayTrailer))) ++ blankSectors 14)
+rideCard =
+    blankSectors 1 ++ ((encodeOf (pos 50) 4 ++ (encodeOf (pos 30) 5 ++ (replicate 16 0 ++ trailerWith (0xFF ∷ 0x00 ∷ 0xF0 ∷ [])))) ++ blankSectors 14)
 
 abbrev pub rideSector : Sector
 rideSector = record { 0 = 1 }
 
 unfoldable pub rideEvents : List Sent
 rideEvents =
-    bare (0x60 ∷ 4 ∷ replicate 6 0xFF)
+    -- a decrement of -50, and a Transfer all the same
+    bare (login 4)
     ∷ bare (0xC0 ∷ 4 ∷ [])
     ∷ bare (0xCE ∷ 0xFF ∷ 0xFF ∷ 0xFF ∷ [])
-    ∷ bare (0x60 ∷ 4 ∷ replicate 6 0xFF)
-    ∷ bare (0xC0 ∷ 4 ∷ [])
+    ∷ bare (0xB0 ∷ 4 ∷ [])
+    -- a decrement of 1, transferred into the other block
+    ∷ withChecksum (login 4)
+    ∷ withChecksum (0xC0 ∷ 4 ∷ [])
     ∷ bare (1 ∷ 0 ∷ 0 ∷ 0 ∷ [])
-    ∷ bare (0xB0 ∷ 5 ∷ [])
+    ∷ withChecksum (0xB0 ∷ 5 ∷ [])
     ∷ []
 
--- the premises hold, the numbers are those of the card, and the purse ends at 100 plus 5 less 3; on the ride card one block has risen, and the largest has not
-pub record NotEmpty : Type 0 where
-  pub begins : decodeOf (contentOf purseCard purse) ≡ Value 100 4
-  pub fair : booksAfter purse purseCard freshOf opened events .fair ≡ true
-  pub numbers : map (λ (a : Answer). a .number) (answersOf purseCard freshOf events) ≡ 0 ∷ 0 ∷ 0 ∷ 0 ∷ 0 ∷ 0 ∷ 10 ∷ 0 ∷ 0 ∷ 0 ∷ 0 ∷ 0 ∷ 0 ∷ []
-  pub counted : booksAfter purse purseCard freshOf opened events .counted ≡ pos 2
-  pub ends : decodeOf (contentOf (runImage purseCard freshOf events) purse) ≡ Value 102 4
-  pub written : contentOf (runImage purseCard freshOf events) other ≡ rideRecord
+-- one block has risen, and the largest has not
+pub record RideRun : Type 0 where
   pub rides : RideSector rideCard rideSector
-  pub kept : trailerKept rideSector rideCard freshOf rideEvents ≡ true
-  pub largest : decodeOf (contentOf (sentRunImage rideCard freshOf rideEvents) purse) ≡ Value 50 4
-  pub risen : decodeOf (contentOf (sentRunImage rideCard freshOf rideEvents) other) ≡ Value 49 4
+  pub unwritten : NotWritten (trailerOf rideSector) (begin rideCard) rideEvents
+  pub answered : map (λ (x : Answer). x .number) (answersOf (begin rideCard) rideEvents) ≡ 0 ∷ 0 ∷ 13 ∷ 3 ∷ 0 ∷ 0 ∷ 0 ∷ 0 ∷ []
+  pub largest : decodeOf (contentOf (runOf (begin rideCard) rideEvents .image) (blockNo 4)) ≡ Value 50 4
+  pub risen : decodeOf (contentOf (runOf (begin rideCard) rideEvents .image) (blockNo 5)) ≡ Value 49 4

@@ -3,6 +3,6 @@ pub mod One
 pub mod Demand1
 pub mod Demand2
 pub mod Demand3
-pub mod Sealed
 pub mod OneWay
 pub mod Example
+pub mod Boundary

@@ -28,7 +28,7 @@ pub(crate) fn ends_at(text: &[u8], width: usize) -> bool
 }
 
 // Field j of the line that a text starts with.
-pub(crate) fn field(text: &[u8], j: usize) -> u8
+fn field(text: &[u8], j: usize) -> u8
     requires { ⌜ j < 32 ⌝ }
 {
     let high = digit(byte_at(text, 3 * j));
@@ -36,11 +36,17 @@ pub(crate) fn field(text: &[u8], j: usize) -> u8
     16 * high + low
 }
 
-// Does field j, 1 for yes and 0 for no, say the same as an answer?
-pub(crate) fn says(text: &[u8], j: usize, answer: bool) -> bool
-    requires { ⌜ j < 32 ⌝ }
+// The first n fields of the line that a text starts with, and zeros.
+pub(crate) fn fields(text: &[u8], n: usize) -> [u8; 22]
+    requires { ⌜ n ≤ 22 ⌝ }
 {
-    field(text, j) == answer as u8
+    let mut f = [0u8; 22];
+    let mut j = 0;
+    while j < n {
+        f[j] = field(text, j);
+        j += 1;
+    }
+    f
 }
 
 fn wide(b: u8) -> u32
@@ -50,36 +56,36 @@ fn wide(b: u8) -> u32
 }
 
 // Four fields as one number, high byte first.
-pub(crate) fn word(text: &[u8], first: usize) -> u32
-    requires { ⌜ first < 24 ⌝ }
+pub(crate) fn word(f: [u8; 22], first: usize) -> u32
+    requires { ⌜ first ≤ 18 ⌝ }
 {
-    let b3 = wide(field(text, first));
-    let b2 = wide(field(text, first + 1));
-    let b1 = wide(field(text, first + 2));
-    let b0 = wide(field(text, first + 3));
+    let b3 = wide(f[first]);
+    let b2 = wide(f[first + 1]);
+    let b1 = wide(f[first + 2]);
+    let b0 = wide(f[first + 3]);
     16777216 * b3 + 65536 * b2 + 256 * b1 + b0
 }
 
 // Sixteen fields as the bytes of a block.
-pub(crate) fn block(text: &[u8], first: usize) -> [u8; 16]
-    requires { ⌜ first ≤ 16 ⌝ }
+pub(crate) fn block(f: [u8; 22], first: usize) -> [u8; 16]
+    requires { ⌜ first ≤ 6 ⌝ }
 {
     let mut bytes = [0u8; 16];
     let mut i = 0;
     while i < 16 {
-        bytes[i] = field(text, first + i);
+        bytes[i] = f[first + i];
         i += 1;
     }
     bytes
 }
 
 // Are sixteen fields the bytes of a block?
-pub(crate) fn is_block(text: &[u8], first: usize, bytes: [u8; 16]) -> bool
-    requires { ⌜ first ≤ 16 ⌝ }
+pub(crate) fn is_block(f: [u8; 22], first: usize, bytes: [u8; 16]) -> bool
+    requires { ⌜ first ≤ 6 ⌝ }
 {
     let mut i = 0;
     while i < 16 {
-        if field(text, first + i) != bytes[i] {
+        if f[first + i] != bytes[i] {
             return false;
         }
         i += 1;

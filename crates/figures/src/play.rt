@@ -1,5 +1,7 @@
 // A file of figures: read, its lines counted, and those that agree.
+ghost use mathlib.Core.Path.{_≡_};
 ghost use Prim.Native.Nat.{_≤_, _<_};
+ghost use lib.ListN.{length};
 ghost use Rattle.io.specs.Counts.{Counts};
 use crate::bits;
 use crate::blocks;
@@ -43,17 +45,17 @@ fn fields_of(figures: Figures) -> usize
     }
 }
 
-// Does the crates' answer agree with the line that a text starts with?
-fn agrees(figures: Figures, text: &[u8]) -> bool {
+// Does the crates' answer agree with the fields of a line?
+fn agrees(figures: Figures, f: [u8; 22]) -> bool {
     match figures {
-        Figures::Layout => blocks::agrees(text),
-        Figures::AccessBytes => bits::agrees(text),
-        Figures::AccessFormat => bits::agrees_in_form(text),
-        Figures::RightsData => rights::agrees_for_data(text),
-        Figures::RightsTrailer => rights::agrees_for_trailer(text),
-        Figures::ValueBlocks => values::agrees(text),
-        Figures::ValueFormat => values::agrees_in_form(text),
-        Figures::Checksums => checksums::agrees(text),
+        Figures::Layout => blocks::agrees(f),
+        Figures::AccessBytes => bits::agrees(f),
+        Figures::AccessFormat => bits::agrees_in_form(f),
+        Figures::RightsData => rights::agrees_for_data(f),
+        Figures::RightsTrailer => rights::agrees_for_trailer(f),
+        Figures::ValueBlocks => values::agrees(f),
+        Figures::ValueFormat => values::agrees_in_form(f),
+        Figures::Checksums => checksums::agrees(f),
     }
 }
 
@@ -70,13 +72,14 @@ fn next(at: usize, width: usize, end: usize) -> usize
 
 // A line that is cut short counts as one that does not agree.
 fn count(figures: Figures, text: &[u8]) -> Score {
-    let width = 3 * fields_of(figures);
+    let n = fields_of(figures);
+    let width = 3 * n;
     let mut agreeing: usize = 0;
     let mut lines: usize = 0;
     let mut at = 0;
     while at < text.len() {
         let rest = &text[at..];
-        if line::ends_at(rest, width) & agrees(figures, rest) {
+        if line::ends_at(rest, width) & agrees(figures, line::fields(rest, n)) {
             agreeing += 1;
         }
         lines += 1;
@@ -91,6 +94,13 @@ fn print_score(s: Score) {
     io::write_all(STDOUT_FILENO, b" of ");
     io::print_decimal(STDOUT_FILENO, s.lines as u64);
     io::write_all(STDOUT_FILENO, b"\n");
+}
+
+// Room for any of the files.
+fn space() -> [u8; 131072]
+    ensures { λ r. ⌜ 131072 ≡ length r ⌝ }
+{
+    [0u8; 131072]
 }
 
 // Reads a file into a space, and answers how many bytes came; none where it cannot be opened or read.
@@ -109,11 +119,11 @@ fn load(path: &[u8], space: &mut [u8]) -> usize
 // Prints a file's name and its score, or that the file is missing.
 pub(crate) fn play(name: &[u8], path: &[u8], figures: Figures) {
     io::write_all(STDOUT_FILENO, name);
-    let mut space = [0u8; 131072];
-    let n = load(path, &mut space);
+    let mut text = space();
+    let n = load(path, &mut text);
     if n == 0 {
         io::write_all(STDOUT_FILENO, b" missing\n");
         return;
     }
-    print_score(count(figures, &space[..n]));
+    print_score(count(figures, &text[..n]));
 }

@@ -1,7 +1,5 @@
 // Figures of the rights. In a line a key is the byte 0A or 0B, and each right is 1 or 0.
 ghost use Prim.Native.Nat.{_≤_};
-use crate::line::field;
-use crate::line::says;
 use access::AccessBytes;
 use access::Bits;
 use access::Letter;
@@ -53,29 +51,30 @@ fn access_bytes_for(g: Group, bits: u8) -> AccessBytes {
 }
 
 // A line: bits, a data block whose group has them, a key, and whether the key may read, write, increment, decrement.
-pub(crate) fn agrees_for_data(text: &[u8]) -> bool {
-    let g = layout::group_of(Block(field(text, 1)));
-    let letter = letter_of(field(text, 2));
-    let wanted = field(text, 0);
+pub(crate) fn agrees_for_data(f: [u8; 22]) -> bool {
+    let g = layout::group_of(Block(f[1]));
+    let letter = letter_of(f[2]);
+    let wanted = f[0];
     let Bits::Are(bits) = access::bits_of(access_bytes_for(g, wanted), g) else {
         return false;
     };
-    let read = says(text, 3, access::may(letter, Operation::Read, bits));
-    let write = says(text, 4, access::may(letter, Operation::Write, bits));
-    let increment = says(text, 5, access::may(letter, Operation::Increment, bits));
-    let decrement = says(text, 6, access::may(letter, Operation::Decrement, bits));
-    (bits == wanted) & read & write & increment & decrement
+    let read = access::may(letter, Operation::Read, bits) as u8;
+    let write = access::may(letter, Operation::Write, bits) as u8;
+    let increment = access::may(letter, Operation::Increment, bits) as u8;
+    let decrement = access::may(letter, Operation::Decrement, bits) as u8;
+    (bits == wanted) & (f[3] == read) & (f[4] == write) & (f[5] == increment) & (f[6] == decrement)
 }
 
 // A line: a trailer's bits, a key, and whether the key may read and write key A, then the access bits, then key B.
 // No key reads key A. Key B reads nothing where it counts for nothing; else either key reads the bits, and only key A reads key B.
-pub(crate) fn agrees_for_trailer(text: &[u8]) -> bool {
-    let bits = field(text, 0);
-    let letter = letter_of(field(text, 1));
+pub(crate) fn agrees_for_trailer(f: [u8; 22]) -> bool {
+    let bits = f[0];
+    let letter = letter_of(f[1]);
     let parts = access::writable(letter, bits);
     let counts = !access::is_mute(letter, bits);
-    let key_a = says(text, 2, false) & says(text, 3, parts.a);
-    let access_bits = says(text, 4, counts) & says(text, 5, parts.bits);
-    let key_b = says(text, 6, access::is_readable(bits) & counts) & says(text, 7, parts.b);
+    let key_a = (f[2] == 0) & (f[3] == parts.a as u8);
+    let access_bits = (f[4] == counts as u8) & (f[5] == parts.bits as u8);
+    let reads_b = access::is_readable(bits) & counts;
+    let key_b = (f[6] == reads_b as u8) & (f[7] == parts.b as u8);
     key_a & access_bits & key_b
 }

@@ -57,6 +57,17 @@ furtherOf image s (Apply b k) = check 8 (noValue image b) ∷ []
 furtherOf image s (Transfer b) = check 9 (isEmpty (s .register)) ∷ []
 furtherOf image s Halt = []
 
+-- a command's checks are the shared ones and then its own; of a value operation, 8 in both frames
+begin-parts : (image : List ℕ) (s : Session) (b : Block) (k : Kind) (frame : List ℕ)
+    → checksOf image s (Begin b k) frame ≡ memoryChecks image (s .auth) (kindColumn k) b ++ (check 8 (noValue image b) ∷ [])
+unfolding checksOf
+begin-parts image s b k frame = refl
+
+apply-parts : (image : List ℕ) (s : Session) (b : Block) (k : Kind) (frame : List ℕ)
+    → checksOf image s (Apply b k) frame ≡ memoryChecks image (s .auth) (kindColumn k) b ++ (check 8 (noValue image b) ∷ [])
+unfolding checksOf
+apply-parts image s b k frame = refl
+
 two-parts : (image : List ℕ) (s : Session) (c : Command) (frame : List ℕ) → isMemory c ≡ true
     → checksOf image s c frame ≡ memoryChecks image (s .auth) (columnOf c) (blockOf c) ++ furtherOf image s c
 unfolding checksOf memoryChecks columnOf blockOf isMemory
@@ -65,8 +76,8 @@ two-parts image s (Authenticate b l) frame h = absurd (false≢true h)
 two-parts image s (Read b) frame h = refl
 two-parts image s (Write b) frame h = refl
 two-parts image s (Store b) frame h = refl
-two-parts image s (Begin b k) frame h = refl
-two-parts image s (Apply b k) frame h = refl
+two-parts image s (Begin b k) frame h = begin-parts image s b k frame
+two-parts image s (Apply b k) frame h = apply-parts image s b k frame
 two-parts image s (Transfer b) frame h = refl
 two-parts image s Halt frame h = absurd (false≢true h)
 

@@ -1,7 +1,7 @@
--- What holds of every frame, for any image, session and frame.
+-- What holds of every act, for any image, session and frame, through whichever entry it came.
 -- Assumes nothing.
 use mathlib.Core.Path.{_≡_, refl, sym, _∙_, ap}
-use mathlib.Core.Bool.{Bool, true, false, cond, _||_, false≢true}
+use mathlib.Core.Bool.{Bool, true, false, _||_, false≢true}
 use mathlib.Core.List.{List}
 use Prim.Native.Nat.{ℕ, _<_}
 use native.Mathlib.Omega.{arith}
@@ -11,7 +11,7 @@ use borrow.Author.Tests.{eqb-true, eq-eqb, ltb-true}
 use Rattle.layout.specs.Layout.{sectorsOf, blocksIn, blocksOf, hasSector, hasBlock, sectorOf, trailerOf, isTrailer}
 use Rattle.layout.specs.declared.Block.{Block}
 use Rattle.layout.specs.declared.Sector.{Sector}
-use Rattle.layout.proofs.Laws.{trailer-in-sector, sector-exists, has-sector}
+use Rattle.layout.proofs.Laws.{trailer-in-sector, sector-exists, has-sector, at-most}
 use Rattle.memory.specs.Memory.{sixteenOf, contentOf}
 use Rattle.memory.proofs.Laws.{store-length, store-back, store-other}
 use Rattle.access.specs.Bits.{accessBytesOf, wellFormed}
@@ -27,14 +27,11 @@ use Rattle.session.specs.declared.Session.{Session}
 use Rattle.frame.specs.Command.{blockAt}
 use Rattle.judge.specs.Checks.{accessOf, isForbidden}
 use Rattle.judge.specs.Grant.{writableBy}
-use Rattle.judge.specs.Judge.{judgeOf}
 use Rattle.judge.specs.declared.Act.{Act}
 use Rattle.judge.specs.declared.Act.the-variants.{Refused, Authenticated, Shown, TrailerShown, WriteWaits, ValueWaits, Stored, TrailerStored, Loaded, Moved, Halted}
 use Rattle.card.specs.Trailer.{zeros, shownTrailer}
 use Rattle.card.specs.Effects.{numberOf, sessionOf, replyOf, imageOf}
-use Rattle.card.specs.Step.{answered, answerOf, imageAfter}
 use Rattle.laws.specs.Accepted.{Allowed, trailerBits, Accepted}
-use Rattle.laws.proofs.Sound.{sound}
 use Rattle.laws.proofs.Lengths.{sixteen-length, sixteen-same, mixed-length}
 
 -- the act stores into the block: a Write's second frame or a Transfer
@@ -61,22 +58,12 @@ or-left : (x y : Bool) → (x || y) ≡ false → x ≡ false
 or-left false y e = refl
 or-left true y e = e
 
--- no image has more than forty sectors
-few-sectors : (bytes : ℕ) → sectorsOf bytes < 41
-unfolding sectorsOf
-few-sectors bytes = go (eqb bytes 1024) (eqb bytes 4096)
-  where
-    go : (t u : Bool) → cond t 16 (cond u 40 0) < 41
-    go true u = omega arith
-    go false true = omega arith
-    go false false = omega arith
-
 -- the trailer of a block's sector is in that sector
 trailer-sector : (bytes : ℕ) (b : Block) → hasBlock bytes b ≡ true → sectorOf (trailerOf (sectorOf b)) ≡ sectorOf b
 unfolding hasBlock blocksOf
 trailer-sector bytes b h =
     let l : sectorOf b .0 < sectorsOf bytes = sector-exists (sectorsOf bytes) b (ltb-true (b .0) (blocksIn (sectorsOf bytes)) h) in
-    ap sectorAt (trailer-in-sector (sectorOf b) (omega (arith, few-sectors bytes)))
+    ap sectorAt (trailer-in-sector (sectorOf b) (omega (arith, at-most bytes .0)))
 
 -- a session whose authenticated sector is that of a block of the image is coherent
 in-own-sector : (bytes : ℕ) (b : Block) (auth : Auth) (quiet : Bool) → hasBlock bytes b ≡ true → inSector auth (sectorOf b) ≡ true → fits auth bytes quiet ≡ true
@@ -91,64 +78,55 @@ unfolding inSector
 one-sector Nobody t u p q = absurd (false≢true p)
 one-sector (As c l) t u p q = ap sectorAt (sym (eqb-true (c .0) (t .0) p) ∙ eqb-true (c .0) (u .0) q)
 
+-- any act; where it matters, one that was accepted
 module _ (image : List ℕ) (s : Session) (frame : List ℕ) where
   -- a refusal leaves the image, gives the fresh session and sixteen zeros
-  pub refusal-fresh : (answerOf image s frame .number ≡ 0 → ⊥)
-      → (imageAfter image s frame ≡ image) × (answerOf image s frame .session ≡ freshOf) × (answerOf image s frame .reply ≡ zeros)
-  unfolding answerOf answered imageAfter numberOf imageOf sessionOf replyOf
-  refusal-fresh = go (judgeOf image s frame)
-    where
-      go : (x : Act) → (numberOf x ≡ 0 → ⊥) → (imageOf image (s .auth) x frame ≡ image) × (sessionOf s x ≡ freshOf) × (replyOf image x ≡ zeros)
-      go (Refused n) h = (refl, refl, refl)
-      go (Authenticated t l) h = absurd (h refl)
-      go (Shown b) h = absurd (h refl)
-      go (TrailerShown b m) h = absurd (h refl)
-      go (WriteWaits b) h = absurd (h refl)
-      go (ValueWaits b k) h = absurd (h refl)
-      go (Stored b) h = absurd (h refl)
-      go (TrailerStored b m) h = absurd (h refl)
-      go (Loaded v a) h = absurd (h refl)
-      go (Moved b v a) h = absurd (h refl)
-      go Halted h = absurd (h refl)
+  pub refusal-fresh : (act : Act) → (numberOf act ≡ 0 → ⊥) → (imageOf image (s .auth) act frame ≡ image) × (sessionOf s act ≡ freshOf) × (replyOf image act ≡ zeros)
+  unfolding numberOf imageOf sessionOf replyOf
+  refusal-fresh (Refused n) h = (refl, refl, refl)
+  refusal-fresh (Authenticated t l) h = absurd (h refl)
+  refusal-fresh (Shown b) h = absurd (h refl)
+  refusal-fresh (TrailerShown b m) h = absurd (h refl)
+  refusal-fresh (WriteWaits b) h = absurd (h refl)
+  refusal-fresh (ValueWaits b k) h = absurd (h refl)
+  refusal-fresh (Stored b) h = absurd (h refl)
+  refusal-fresh (TrailerStored b m) h = absurd (h refl)
+  refusal-fresh (Loaded v a) h = absurd (h refl)
+  refusal-fresh (Moved b v a) h = absurd (h refl)
+  refusal-fresh Halted h = absurd (h refl)
 
   -- the image's length never changes
-  pub image-length : length (imageAfter image s frame) ≡ length image
-  unfolding imageAfter imageOf
-  image-length = go (judgeOf image s frame)
-    where
-      go : (x : Act) → length (imageOf image (s .auth) x frame) ≡ length image
-      go (Refused n) = refl
-      go (Authenticated t l) = refl
-      go (Shown b) = refl
-      go (TrailerShown b m) = refl
-      go (WriteWaits b) = refl
-      go (ValueWaits b k) = refl
-      go (Stored b) = store-length image b (sixteenOf frame) (sixteen-length frame)
-      go (TrailerStored b m) = store-length image b _ (mixed-length (writableBy (s .auth) m) image b frame)
-      go (Loaded v a) = refl
-      go (Moved b v a) = store-length image b (encodeOf (signed v) a) (encode-length (signed v) a)
-      go Halted = refl
+  pub image-length : (act : Act) → length (imageOf image (s .auth) act frame) ≡ length image
+  unfolding imageOf
+  image-length (Refused n) = refl
+  image-length (Authenticated t l) = refl
+  image-length (Shown b) = refl
+  image-length (TrailerShown b m) = refl
+  image-length (WriteWaits b) = refl
+  image-length (ValueWaits b k) = refl
+  image-length (Stored b) = store-length image b (sixteenOf frame) (sixteen-length frame)
+  image-length (TrailerStored b m) = store-length image b _ (mixed-length (writableBy (s .auth) m) image b frame)
+  image-length (Loaded v a) = refl
+  image-length (Moved b v a) = store-length image b (encodeOf (signed v) a) (encode-length (signed v) a)
+  image-length Halted = refl
 
   -- a block that the act does not touch is as it was
-  pub untouched : (j : Block) → (Touches (judgeOf image s frame) j → ⊥) → contentOf (imageAfter image s frame) j ≡ contentOf image j
-  unfolding imageAfter imageOf
-  untouched j = go (judgeOf image s frame)
-    where
-      go : (x : Act) → (Touches x j → ⊥) → contentOf (imageOf image (s .auth) x frame) j ≡ contentOf image j
-      go (Refused n) h = refl
-      go (Authenticated t l) h = refl
-      go (Shown b) h = refl
-      go (TrailerShown b m) h = refl
-      go (WriteWaits b) h = refl
-      go (ValueWaits b k) h = refl
-      go (Stored b) h = store-other image b (sixteenOf frame) (sixteen-length frame) j h
-      go (TrailerStored b m) h = store-other image b _ (mixed-length (writableBy (s .auth) m) image b frame) j h
-      go (Loaded v a) h = refl
-      go (Moved b v a) h = store-other image b (encodeOf (signed v) a) (encode-length (signed v) a) j h
-      go Halted h = refl
+  pub untouched : (act : Act) (j : Block) → (Touches act j → ⊥) → contentOf (imageOf image (s .auth) act frame) j ≡ contentOf image j
+  unfolding imageOf
+  untouched (Refused n) j h = refl
+  untouched (Authenticated t l) j h = refl
+  untouched (Shown b) j h = refl
+  untouched (TrailerShown b m) j h = refl
+  untouched (WriteWaits b) j h = refl
+  untouched (ValueWaits b k) j h = refl
+  untouched (Stored b) j h = store-other image b (sixteenOf frame) (sixteen-length frame) j h
+  untouched (TrailerStored b m) j h = store-other image b _ (mixed-length (writableBy (s .auth) m) image b frame) j h
+  untouched (Loaded v a) j h = refl
+  untouched (Moved b v a) j h = store-other image b (encodeOf (signed v) a) (encode-length (signed v) a) j h
+  untouched Halted j h = refl
 
   -- whoever stores passed the checks of a Write or of a Transfer
-  touched : (x : Act) → Accepted image s frame x → (j : Block) → Touches x j → (b : Block) × (b .0 ≡ j .0) × (wellFormed (accessOf image b) ≡ true) × (eqb (b .0) 0 ≡ false)
+  touched : (act : Act) → Accepted image s frame act → (j : Block) → Touches act j → (b : Block) × (b .0 ≡ j .0) × (wellFormed (accessOf image b) ≡ true) × (eqb (b .0) 0 ≡ false)
   unfolding isForbidden
   touched (Refused n) h j t = absurd t
   touched (Authenticated u l) h j t = absurd t
@@ -163,52 +141,46 @@ module _ (image : List ℕ) (s : Session) (frame : List ℕ) where
   touched Halted h j t = absurd t
 
   -- block 0 never changes
-  pub block-0 : contentOf (imageAfter image s frame) (blockAt 0) ≡ contentOf image (blockAt 0)
-  block-0 =
-      untouched (blockAt 0)
+  pub block-0 : (act : Act) → Accepted image s frame act → contentOf (imageOf image (s .auth) act frame) (blockAt 0) ≡ contentOf image (blockAt 0)
+  block-0 act h =
+      untouched act (blockAt 0)
       (λ t.
-      let p = touched (judgeOf image s frame) (sound image s frame) (blockAt 0) t in
+      let p = touched act h (blockAt 0) t in
       let q : false ≡ true = sym (p .3) ∙ eq-eqb (p .0 .0) 0 (p .1) in
       absurd (false≢true q))
 
-  -- a blocked sector stays blocked whatever frame comes
-  pub stays-blocked : (b : Block) → hasBlock (length image) b ≡ true → wellFormed (accessOf image b) ≡ false
-      → wellFormed (accessOf (imageAfter image s frame) b) ≡ false
-  stays-blocked b has e =
-      ap (λ (t : List ℕ). wellFormed (accessBytesOf t)) (untouched (trailerOf (sectorOf b)) clear) ∙ e
+  -- a blocked sector stays blocked whatever is done
+  pub stays-blocked : (act : Act) → Accepted image s frame act → (b : Block) → hasBlock (length image) b ≡ true → wellFormed (accessOf image b) ≡ false
+      → wellFormed (accessOf (imageOf image (s .auth) act frame) b) ≡ false
+  stays-blocked act h b has e =
+      ap (λ (t : List ℕ). wellFormed (accessBytesOf t)) (untouched act (trailerOf (sectorOf b)) clear) ∙ e
     where
-      clear : Touches (judgeOf image s frame) (trailerOf (sectorOf b)) → ⊥
+      clear : Touches act (trailerOf (sectorOf b)) → ⊥
       clear t =
-          let p = touched (judgeOf image s frame) (sound image s frame) (trailerOf (sectorOf b)) t in
+          let p = touched act h (trailerOf (sectorOf b)) t in
           let same : sectorOf (p .0) ≡ sectorOf b = ap sectorOf (block-eq (p .0) (trailerOf (sectorOf b)) (p .1)) ∙ trailer-sector (length image) b has in
           let q : false ≡ true = sym e ∙ ap (λ (c : Sector). wellFormed (accessBytesOf (contentOf image (trailerOf c)))) (sym same) ∙ p .2 in
           absurd (false≢true q)
 
-  -- an accepted Read of a data block returns the block; of a trailer, the block with its keys blanked by rule
-  pub read-data : (b : Block) → judgeOf image s frame ≡ Shown b → (isTrailer b ≡ false) × (answerOf image s frame .reply ≡ contentOf image b)
-  unfolding answerOf answered replyOf
-  read-data b e =
-      let h : Accepted image s frame (Shown b) = rw e at (sound image s frame) in
-      (h .2, rw e)
+  -- an accepted Read shows a data block as it is; a trailer with its keys blanked by rule
+  pub read-data : (b : Block) → Accepted image s frame (Shown b) → (isTrailer b ≡ false) × (replyOf image (Shown b) ≡ contentOf image b)
+  unfolding replyOf
+  read-data b h = (h .2, refl)
 
-  pub read-trailer : (b : Block) (m : ℕ) → judgeOf image s frame ≡ TrailerShown b m
-      → (isTrailer b ≡ true) × (answerOf image s frame .reply ≡ shownTrailer (readableOf (trailerBits image b)) (contentOf image b))
-  unfolding answerOf answered replyOf
-  read-trailer b m e =
-      let h : Accepted image s frame (TrailerShown b m) = rw e at (sound image s frame) in
-      (h .2, rw (e, h .3))
+  pub read-trailer : (b : Block) (m : ℕ) → Accepted image s frame (TrailerShown b m)
+      → (isTrailer b ≡ true) × (replyOf image (TrailerShown b m) ≡ shownTrailer (readableOf (trailerBits image b)) (contentOf image b))
+  unfolding replyOf
+  read-trailer b m h = (h .2, rw (h .3))
 
   -- an accepted Write that may write the whole block leaves the sixteen bytes of its frame in it
-  pub write-stored : (b : Block) → judgeOf image s frame ≡ Stored b → contentOf (imageAfter image s frame) b ≡ frame
-  unfolding imageAfter imageOf
-  write-stored b e =
-      let h : Accepted image s frame (Stored b) = rw e at (sound image s frame) in
-      rw (e, sixteen-same frame (h .2)) (store-back image b frame (h .2) (h .1 .has))
+  pub write-stored : (b : Block) → Accepted image s frame (Stored b) → contentOf (imageOf image (s .auth) (Stored b) frame) b ≡ frame
+  unfolding imageOf
+  write-stored b h = rw (sixteen-same frame (h .2)) (store-back image b frame (h .2) (h .1 .has))
 
-  -- the session after every frame is coherent
-  pub stays-coherent : coherentOf (length (imageAfter image s frame)) (answerOf image s frame .session) ≡ true
-  unfolding answerOf answered sessionOf coherentOf
-  stays-coherent = rw image-length (go (judgeOf image s frame) (sound image s frame))
+  -- the session is coherent afterwards
+  pub stays-coherent : (act : Act) → Accepted image s frame act → coherentOf (length (imageOf image (s .auth) act frame)) (sessionOf s act) ≡ true
+  unfolding sessionOf coherentOf
+  stays-coherent act h = rw (image-length act) (go act h)
     where
       held : (o : Operation) (b : Block) → Allowed image (s .auth) o b → (quiet : Bool) → fits (s .auth) (length image) quiet ≡ true
       held o b h quiet = in-own-sector (length image) b (s .auth) quiet (h .has) (h .own)
@@ -227,10 +199,9 @@ module _ (image : List ℕ) (s : Session) (frame : List ℕ) where
       go Halted h = refl
 
 -- what such a Write stored, a permitted Read of a data block gives back
-pub write-read : (image : List ℕ) (s later : Session) (frame read : List ℕ) (b : Block) → judgeOf image s frame ≡ Stored b
-    → judgeOf (imageAfter image s frame) later read ≡ Shown b → answerOf (imageAfter image s frame) later read .reply ≡ frame
-write-read image s later frame read b e r =
-    read-data (imageAfter image s frame) later read b r .1 ∙ write-stored image s frame b e
+pub write-read : (image : List ℕ) (s later : Session) (frame read : List ℕ) (b : Block) → Accepted image s frame (Stored b)
+    → Accepted (imageOf image (s .auth) (Stored b) frame) later read (Shown b) → replyOf (imageOf image (s .auth) (Stored b) frame) (Shown b) ≡ frame
+write-read image s later frame read b h r = read-data (imageOf image (s .auth) (Stored b) frame) later read b r .1 ∙ write-stored image s frame b h
 
 -- the block's sector is the one that an act is about
 abbrev pub Concerns : Act → Session → Block → Type 0
@@ -247,8 +218,8 @@ Concerns (Moved c v a) s b = sectorOf c ≡ sectorOf b
 Concerns Halted s b = ⊥
 
 -- every command on a blocked sector is refused
-pub blocked-refused : (image : List ℕ) (s : Session) (frame : List ℕ) (b : Block) → wellFormed (accessOf image b) ≡ false → Concerns (judgeOf image s frame) s b → ⊥
-blocked-refused image s frame b e = go (judgeOf image s frame) (sound image s frame)
+pub blocked-refused : (image : List ℕ) (s : Session) (frame : List ℕ) (act : Act) → Accepted image s frame act → (b : Block) → wellFormed (accessOf image b) ≡ false → Concerns act s b → ⊥
+blocked-refused image s frame act h b e = go act h
   where
     no : (c : Block) → sectorOf c ≡ sectorOf b → wellFormed (accessOf image c) ≡ true → ⊥
     no c q h =

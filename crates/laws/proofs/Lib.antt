@@ -1,3 +1,4 @@
 pub mod Sound
 pub mod Lengths
 pub mod Laws
+pub mod Keeps

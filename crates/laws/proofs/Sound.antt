@@ -145,7 +145,7 @@ module _ (image : List ℕ) (s : Session) (frame : List ℕ) where
   command w c e (transfers b) =
       rule (checksOf image s (Transfer b) frame) _ refl
       (λ p. move b (s .register) e refl (allowed image (s .auth) column.Decrement b (both (memoryChecks image (s .auth) column.Decrement b) (check 9 (isEmpty (s .register)) ∷ []) p .0)))
-  command w c e halts = e
+  command w c e halts = tt
 
   -- every act of the judgement is accepted, or a refusal whose number is not 0
   pub sound : Accepted image s frame (judgeOf image s frame)

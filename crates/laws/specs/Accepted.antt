@@ -61,7 +61,7 @@ pub record Load (image : List ℕ) (s : Session) (frame : List ℕ) (v a : ℕ) 
   pub result : totalFor kind (bitsIn (contentOf image source)) (bitsIn frame) ≡ Fits v
   pub address : a ≡ addressIn (contentOf image source)
 
--- what stands behind each act: which frame was awaited, and what it has passed; a refusal has a number other than 0
+-- what stands behind each act: which frame was awaited, and what it has passed; a refusal has a number other than 0, and a Halt, or a field reset, asks for nothing
 abbrev pub Accepted : List ℕ → Session → List ℕ → Act → Type 0
 Accepted image s frame (Refused n) = n ≡ 0 → ⊥
 Accepted image s frame (Authenticated t l) = (s .stage ≡ stage.Idle) × Admitted image t l frame
@@ -74,4 +74,4 @@ Accepted image s frame (TrailerStored b m) =
     (s .stage ≡ stage.WriteWaits b) × Allowed image (s .auth) column.Write b × (length frame ≡ 16) × (isTrailer b ≡ true) × (m ≡ trailerBits image b)
 Accepted image s frame (Loaded v a) = Load image s frame v a
 Accepted image s frame (Moved b v a) = (s .stage ≡ stage.Idle) × Allowed image (s .auth) column.Decrement b × (s .register ≡ Full v a)
-Accepted image s frame Halted = s .stage ≡ stage.Idle
+Accepted image s frame Halted = Unit {0}

@@ -135,15 +135,63 @@ group-trailer b h g = eq-eqb (trailerOf (sectorOf b) .0) (b .0) (go (ltb (b .0) 
         let q : sectorOf b .0 ≡ 32 + (b .0 - 128) / 16 = sector-large b e in
         omega (arith, trailer-large (sectorOf b) (omega arith) (omega arith), past-groups 5 (b .0 % 16) (rw e at g))
 
--- an image has room for the sixteen bytes of each block that it has
-pub room : (bytes : ℕ) (b : Block) → hasBlock bytes b ≡ true → 16 * b .0 + 16 ≤ bytes
-unfolding hasBlock blocksOf blocksIn sectorsOf
-room bytes b h = go (eqb bytes 1024) refl (eqb bytes 4096) refl
+-- A length in bytes: no card has it, or a card of one to forty sectors, whose blocks are all of its bytes. Nothing else looks at a size.
+pub data Size (bytes : ℕ) : Type 0 where
+  no-card : sectorsOf bytes ≡ 0 → Size bytes
+  card : 0 < sectorsOf bytes → sectorsOf bytes ≤ 40 → 16 * blocksOf bytes ≡ bytes → Size bytes
+
+pub size-of : (bytes : ℕ) → Size bytes
+unfolding sectorsOf blocksOf blocksIn
+size-of bytes = go (eqb bytes 1024) refl (eqb bytes 4096) refl
   where
-    go : (t : Bool) → eqb bytes 1024 ≡ t → (u : Bool) → eqb bytes 4096 ≡ u → 16 * b .0 + 16 ≤ bytes
-    go true e u f = omega (arith, eqb-true bytes 1024 e, ltb-true (b .0) 64 (rw e at h))
-    go false e true f = omega (arith, eqb-true bytes 4096 f, ltb-true (b .0) 256 (rw (e, f) at h))
-    go false e false f = omega (arith, ltb-true (b .0) 0 (rw (e, f) at h))
+    go : (t : Bool) → eqb bytes 1024 ≡ t → (u : Bool) → eqb bytes 4096 ≡ u → Size bytes
+    go true e u f = let q = eqb-true bytes 1024 e in card (rw e (omega arith)) (rw e (omega arith)) (rw e (omega (arith, q)))
+    go false e true f = let q = eqb-true bytes 4096 f in card (rw (e, f) (omega arith)) (rw (e, f) (omega arith)) (rw (e, f) (omega (arith, q)))
+    go false e false f = no-card (rw (e, f))
+
+-- what is no card has no block
+pub no-blocks : (bytes : ℕ) → sectorsOf bytes ≡ 0 → blocksOf bytes ≡ 0
+unfolding blocksOf blocksIn
+no-blocks bytes e = rw e
+
+-- no image has more than 40 sectors, 256 blocks, 4,096 bytes
+few-blocks : (n : ℕ) → n ≤ 40 → blocksIn n ≤ 256
+few-blocks n h = go (leb n 32) refl
+  where
+    go : (t : Bool) → leb n 32 ≡ t → blocksIn n ≤ 256
+    go true e = omega (arith, blocks-small n e, leb-true n 32 e)
+    go false e = omega (arith, blocks-large n e, leb-false n 32 e)
+
+pub at-most : (bytes : ℕ) → (sectorsOf bytes ≤ 40) × (blocksOf bytes ≤ 256)
+unfolding blocksOf
+at-most bytes = let h : sectorsOf bytes ≤ 40 = go (size-of bytes) in (h, few-blocks (sectorsOf bytes) h)
+  where
+    go : Size bytes → sectorsOf bytes ≤ 40
+    go (no-card e) = omega arith
+    go (card some few whole) = few
+
+pub card-bytes : (bytes : ℕ) → (sectorsOf bytes ≡ 0 → ⊥) → 16 * blocksOf bytes ≡ bytes
+card-bytes bytes h = go (size-of bytes)
+  where
+    go : Size bytes → 16 * blocksOf bytes ≡ bytes
+    go (no-card e) = absurd (h e)
+    go (card some few whole) = whole
+
+-- an image has room for the sixteen bytes of each block that it has, and the block has a byte for its address
+pub room : (bytes : ℕ) (b : Block) → hasBlock bytes b ≡ true → 16 * b .0 + 16 ≤ bytes
+unfolding hasBlock
+room bytes b h = go (size-of bytes)
+  where
+    l : b .0 < blocksOf bytes
+    l = ltb-true (b .0) (blocksOf bytes) h
+
+    go : Size bytes → 16 * b .0 + 16 ≤ bytes
+    go (no-card e) = omega (arith, l, no-blocks bytes e)
+    go (card some few whole) = omega (arith, l)
+
+pub has-small : (bytes : ℕ) (b : Block) → hasBlock bytes b ≡ true → b .0 < 256
+unfolding hasBlock
+has-small bytes b h = omega (arith, ltb-true (b .0) (blocksOf bytes) h, at-most bytes .1)
 
 -- an image that has the block has its sector and the sector's trailer
 pub has-sector : (bytes : ℕ) (b : Block) → hasBlock bytes b ≡ true → hasSector bytes (sectorOf b) ≡ true

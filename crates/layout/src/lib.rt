@@ -1,7 +1,7 @@
 // Where blocks stand: the image sizes, sectors, trailers and access groups.
 // A block address and a sector number are different types, and nothing but this crate makes one from the other.
 ghost use mathlib.Core.Path.{_≡_};
-ghost use mathlib.Core.Bool.{_||_};
+ghost use mathlib.Core.Bool.{not};
 ghost use Prim.Native.Nat.{_<_};
 ghost use lib.Dec.{eqb};
 ghost use Rattle.layout.specs.Layout.{sectorsOf, blocksOf, hasSector, hasBlock, sectorOf, trailerOf, isTrailer, groupAt, groupOf, groupNumber};
@@ -35,7 +35,7 @@ pub fn sectors_of(bytes: usize) -> usize
 
 // Is this the size of a card's image?
 fn is_card(bytes: usize) -> bool
-    ensures { λ r. ⌜ r ≡ eqb bytes 1024 || eqb bytes 4096 ⌝ }
+    ensures { λ r. ⌜ r ≡ not (eqb (sectorsOf bytes) 0) ⌝ }
 {
     (bytes == 1024) | (bytes == 4096)
 }

@@ -2,89 +2,85 @@
 -- Assumes nothing.
 use mathlib.Core.Path.{_≡_, refl, sym, _∙_, ap}
 use mathlib.Core.Bool.{Bool, true, false, cond}
-use mathlib.Core.List.{List, [], _∷_, _++_, append-assoc, append-nil}
+use mathlib.Core.List.{List, [], _∷_, _++_, map, append-assoc, append-nil}
 use Prim.Native.Nat.{ℕ, zero, suc, _+_, _*_, _-_, _<_, _≤_}
 use native.Mathlib.Omega.{arith}
-use lib.Dec.{ltb}
-use lib.ListN.{length, getD}
+use lib.Dec.{eqb}
+use lib.ListN.{length}
+use borrow.Author.Tests.{eqb-true, eqb-false}
 use Rattle.session.specs.Session.{freshOf}
 use Rattle.session.specs.declared.Session.{Session}
 use Rattle.card.specs.declared.Answer.{Answer}
-use Rattle.script.specs.Script.{Reading, lawful, refused, numberOf, frameAt, nextAt, before, eventsFrom}
+use Rattle.script.specs.Script.{eventRefusal, frameAt, nextAt, Walk, walked, stopped, before, eventsFrom, stopIn, eventsOn}
 use Rattle.reader.specs.Reader.{stepAt, bytesOf}
 use Rattle.reader.specs.declared.Step.{Step}
 use Rattle.reader.proofs.Laws.{lawful-event}
+use Rattle.runs.specs.Run.{State, begin, Sent, answerTo, imageUpon, after, runOf, answersOf}
 use Rattle.play.specs.Text.{Put}
-use Rattle.play.specs.Run.{eventAnswer, eventImage, answersOf, sessionAfter, runImage, eventsIn}
+use Rattle.play.specs.Run.{sentOf}
 use Rattle.play.specs.Printout.{eventLines}
 use Rattle.play.specs.Results.{widthOf, resultsOf, keptOne, keptOf}
 use Rattle.play.specs.declared.events.Form.{Form}
 use Rattle.play.specs.declared.events.Form.the-variants.{Lines, Results}
 use Rattle.play.proofs.Put.{put-nothing, put-length, then}
 
--- a reading that begins with an event
-before-lawful : (f : List ℕ) (r : Reading) (rest : List (List ℕ)) → before f r ≡ lawful rest → (more : List (List ℕ)) × (rest ≡ f ∷ more) × (r ≡ lawful more)
+-- a walk that begins with an event
+before-walked : (f : List ℕ) (w : Walk) (rest : List (List ℕ)) (end : ℕ) → before f w ≡ walked rest end → (more : List (List ℕ)) × (rest ≡ f ∷ more) × (w ≡ walked more end)
 unfolding before
-before-lawful f (lawful es) rest e = (es, cc, refl)
-before-lawful f (refused n) rest e = ([], cc, cc)
+before-walked f (walked es place) rest end e = (es, cc, cc)
+before-walked f (stopped n) rest end e = ([], cc, cc)
 
--- one event of a lawful reading
-next-event : (script : List ℕ) (left place : ℕ) (rest : List (List ℕ)) → 0 < left → eventsFrom script left place ≡ lawful rest
-    → (more : List (List ℕ)) × (rest ≡ frameAt script place ∷ more) × (eventsFrom script (left - 1) (nextAt script place) ≡ lawful more)
+-- one event of a walk that is not stopped
+next-event : (script : List ℕ) (left place : ℕ) (rest : List (List ℕ)) (end : ℕ) → 0 < left → eventsFrom script left place ≡ walked rest end
+    → (eventRefusal script place ≡ 0) × ((more : List (List ℕ)) × (rest ≡ frameAt script place ∷ more) × (eventsFrom script (left - 1) (nextAt script place) ≡ walked more end))
 unfolding eventsFrom
-next-event script left place rest h e =
-    go (ltb place (length script)) (ltb 18 (getD script place 0)) (ltb (length script) (place + 1 + getD script place 0)) (ap (λ (n : ℕ). eventsFrom script n place) (sym one-more) ∙ e)
+next-event script left place rest end h e = go (eqb (eventRefusal script place) 0) refl (ap (λ (n : ℕ). eventsFrom script n place) (sym one-more) ∙ e)
   where
     one-more : left ≡ suc (left - 1)
     one-more = omega arith
 
-    inner : Reading
+    inner : Walk
     inner = eventsFrom script (left - 1) (nextAt script place)
 
-    go : (t u v : Bool) → cond t (cond u (refused 23) (cond v (refused 20) (before (frameAt script place) inner))) (refused 20) ≡ lawful rest
-        → (more : List (List ℕ)) × (rest ≡ frameAt script place ∷ more) × (inner ≡ lawful more)
-    go false u v q = ([], cc, cc)
-    go true true v q = ([], cc, cc)
-    go true false true q = ([], cc, cc)
-    go true false false q = before-lawful (frameAt script place) inner rest q
+    go : (t : Bool) → eqb (eventRefusal script place) 0 ≡ t → cond t (before (frameAt script place) inner) (stopped (eventRefusal script place)) ≡ walked rest end
+        → (eventRefusal script place ≡ 0) × ((more : List (List ℕ)) × (rest ≡ frameAt script place ∷ more) × (inner ≡ walked more end))
+    go false u q = let z : _≡_ {A = ℕ} 0 1 = cc in absurd (omega arith)
+    go true u q = (eqb-true (eventRefusal script place) 0 u, before-walked (frameAt script place) inner rest end q)
 
 -- no event is left
-last-event : (script : List ℕ) (left place : ℕ) (rest : List (List ℕ)) → left ≤ 0 → eventsFrom script left place ≡ lawful rest → rest ≡ []
+last-event : (script : List ℕ) (left place : ℕ) (rest : List (List ℕ)) (end : ℕ) → left ≤ 0 → eventsFrom script left place ≡ walked rest end → rest ≡ []
 unfolding eventsFrom
-last-event script left place rest h e = go (ltb place (length script)) (ap (λ (n : ℕ). eventsFrom script n place) (sym none) ∙ e)
-  where
-    none : left ≡ 0
-    none = omega arith
+last-event script left place rest end h e =
+    let none : left ≡ 0 = omega arith in
+    let q : walked [] place ≡ walked rest end = ap (λ (n : ℕ). eventsFrom script n place) (sym none) ∙ e in
+    cc
 
-    go : (t : Bool) → cond t (refused 24) (lawful []) ≡ lawful rest → rest ≡ []
-    go true q = cc
-    go false q = cc
+-- a walk without a refusal came through
+same-stop : (f : List ℕ) (w : Walk) → stopIn (before f w) ≡ stopIn w
+unfolding before stopIn
+same-stop f (walked es place) = refl
+same-stop f (stopped n) = refl
 
--- a reading without a refusal is lawful
-before-number : (f : List ℕ) (r : Reading) → numberOf (before f r) ≡ numberOf r
-unfolding before numberOf
-before-number f (lawful es) = refl
-before-number f (refused n) = refl
+before-through : (f : List ℕ) (w : Walk) (end : ℕ) → w ≡ walked (eventsOn w) end → before f w ≡ walked (eventsOn (before f w)) end
+unfolding before eventsOn
+before-through f (walked es place) end e = let q : place ≡ end = cc in rw q
+before-through f (stopped n) end e = let z : _≡_ {A = ℕ} 0 1 = cc in absurd (omega arith)
 
-pub is-lawful : (script : List ℕ) (n place : ℕ) → numberOf (eventsFrom script n place) ≡ 0 → eventsFrom script n place ≡ lawful (eventsIn (eventsFrom script n place))
-unfolding eventsFrom numberOf eventsIn before
-is-lawful script zero place h = go (ltb place (length script)) h
+pub through : (script : List ℕ) (n place : ℕ) → stopIn (eventsFrom script n place) ≡ 0 → (end : ℕ) × (eventsFrom script n place ≡ walked (eventsOn (eventsFrom script n place)) end)
+unfolding eventsFrom stopIn eventsOn
+through script zero place h = (place, refl)
+through script (suc n) place h = go (eqb (eventRefusal script place) 0) refl h (through script n (nextAt script place))
   where
-    go : (t : Bool) → numberOf (cond t (refused 24) (lawful [])) ≡ 0 → cond t (refused 24) (lawful []) ≡ lawful (eventsIn (cond t (refused 24) (lawful [])))
-    go true q = absurd (omega arith)
-    go false q = refl
-is-lawful script (suc n) place h =
-    go (ltb place (length script)) (ltb 18 (getD script place 0)) (ltb (length script) (place + 1 + getD script place 0)) (eventsFrom script n (nextAt script place)) (is-lawful script n (nextAt script place)) h
-  where
-    go : (t u v : Bool) (r : Reading) → (numberOf r ≡ 0 → r ≡ lawful (eventsIn r))
-        → numberOf (cond t (cond u (refused 23) (cond v (refused 20) (before (frameAt script place) r))) (refused 20)) ≡ 0
-        → cond t (cond u (refused 23) (cond v (refused 20) (before (frameAt script place) r))) (refused 20)
-        ≡ lawful (eventsIn (cond t (cond u (refused 23) (cond v (refused 20) (before (frameAt script place) r))) (refused 20)))
-    go false u v r f q = absurd (omega arith)
-    go true true v r f q = absurd (omega arith)
-    go true false true r f q = absurd (omega arith)
-    go true false false (lawful es) f q = refl
-    go true false false (refused m) f q = let z : refused m ≡ lawful [] = f q in cc
+    inner : Walk
+    inner = eventsFrom script n (nextAt script place)
+
+    whole : Bool → Walk
+    whole t = cond t (before (frameAt script place) inner) (stopped (eventRefusal script place))
+
+    go : (t : Bool) → eqb (eventRefusal script place) 0 ≡ t → stopIn (whole t) ≡ 0 → (stopIn inner ≡ 0 → (end : ℕ) × (inner ≡ walked (eventsOn inner) end))
+        → (end : ℕ) × (whole t ≡ walked (eventsOn (whole t)) end)
+    go true e q f = let r = f (sym (same-stop (frameAt script place) inner) ∙ q) in (r .0, before-through (frameAt script place) inner (r .0) (r .1))
+    go false e q f = absurd (eqb-false (eventRefusal script place) 0 e q)
 
 -- one answer after the other, in either form
 kept-none : (f : Form) (i : ℕ) → keptOf f i [] ≡ []
@@ -116,35 +112,40 @@ room-end : (f : Form) (to left end : ℕ) → to + widthOf f * left ≤ end → 
 room-end Lines to left end r = omega arith
 room-end Results to left end r = omega arith
 
+-- an image and a session
+abbrev at-rest : List ℕ → Session → State
+at-rest image s = record { image = image; session = s }
+
 module _ (form : Form) (script : List ℕ) (image₀ out₀ : List ℕ) (at count start : ℕ) where
   -- the events of the whole
-  abbrev all : List (List ℕ)
-  all = eventsIn (eventsFrom script count start)
+  abbrev all : List Sent
+  all = map sentOf (eventsOn (eventsFrom script count start))
 
   pub record Going (image out : List ℕ) (s : Session) (place to i left : ℕ) : Type 0 where
     pub rest : List (List ℕ)
     pub done : List ℕ
-    pub ahead : eventsFrom script left place ≡ lawful rest
+    pub last : ℕ
+    pub ahead : eventsFrom script left place ≡ walked rest last
     pub put : Put out₀ at done out to
-    pub kept : done ++ keptOf form i (answersOf image s rest) ≡ keptOf form 1 (answersOf image₀ freshOf all)
-    pub holds : sessionAfter image s rest ≡ sessionAfter image₀ freshOf all
-    pub ran : runImage image s rest ≡ runImage image₀ freshOf all
+    pub kept : done ++ keptOf form i (answersOf (at-rest image s) (map sentOf rest)) ≡ keptOf form 1 (answersOf (begin image₀) all)
+    pub ran : runOf (at-rest image s) (map sentOf rest) ≡ runOf (begin image₀) all
     pub same-image : length image ≡ length image₀
     pub same-out : length out ≡ length out₀
     pub few : i + left ≤ 1001
     pub room : to + widthOf form * left ≤ at + widthOf form * count
     pub fits : at + widthOf form * count ≤ length out₀
 
-  pub begin : (s : Session) → s ≡ freshOf → count ≤ 1000 → at + widthOf form * count ≤ length out₀ → numberOf (eventsFrom script count start) ≡ 0
+  pub started : (s : Session) → s ≡ freshOf → count ≤ 1000 → at + widthOf form * count ≤ length out₀ → stopIn (eventsFrom script count start) ≡ 0
       → Going image₀ out₀ s start at 1 count
-  begin s e c r n =
+  started s e c r n =
+      let t = through script count start n in
       record {
-        rest = all;
+        rest = eventsOn (eventsFrom script count start);
         done = [];
-        ahead = is-lawful script count start n;
+        last = t .0;
+        ahead = t .1;
         put = record { here = sym (put-nothing out₀ at); moved = omega arith; fits = room-end form at count (length out₀) r };
         kept = rw e;
-        holds = rw e;
         ran = rw e;
         same-image = refl;
         same-out = refl;
@@ -161,29 +162,27 @@ module _ (form : Form) (script : List ℕ) (image₀ out₀ : List ℕ) (at coun
 
     -- what the walk found here is the event that is due
     pub due : (here : Step) (frame : List ℕ) → 0 < left → here ≡ stepAt script place → frame ≡ bytesOf script (here .found) → frame ≡ frameAt script place
-    unfolding numberOf
     due here frame h e f =
-        let more : left ≡ suc (left - 1) = omega arith in
-        let fine : numberOf (eventsFrom script (suc (left - 1)) place) ≡ 0 = ap (λ (n : ℕ). numberOf (eventsFrom script n place)) (sym more) ∙ ap numberOf (g .ahead) in
-        f ∙ ap (λ (x : Step). bytesOf script (x .found)) e ∙ lawful-event script (left - 1) place fine
+        let n = next-event script left place (g .rest) (g .last) h (g .ahead) in
+        f ∙ ap (λ (x : Step). bytesOf script (x .found)) e ∙ lawful-event script place (n .0)
 
-    pub turn : (a : Answer) (frame image′ out′ : List ℕ) (place′ to′ : ℕ) → 0 < left → frame ≡ frameAt script place → a ≡ eventAnswer image s frame
-        → image′ ≡ eventImage image s frame → length image′ ≡ length image → Put out to (keptOne form i a) out′ to′ → to′ ≤ to + widthOf form
+    pub turn : (a : Answer) (frame image′ out′ : List ℕ) (place′ to′ : ℕ) → 0 < left → frame ≡ frameAt script place → a ≡ answerTo (at-rest image s) (sentOf frame)
+        → image′ ≡ imageUpon (at-rest image s) (sentOf frame) → length image′ ≡ length image → Put out to (keptOne form i a) out′ to′ → to′ ≤ to + widthOf form
         → place′ ≡ nextAt script place → Going image′ out′ (a .session) place′ to′ (i + 1) (left - 1)
-    unfolding answersOf sessionAfter runImage
+    unfolding answersOf runOf after
     turn a frame image′ out′ place′ to′ h f ea ei li p b ep =
-        let n = next-event script left place (g .rest) h (g .ahead) in
+        let n = next-event script left place (g .rest) (g .last) h (g .ahead) .1 in
         let ra : g .rest ≡ frame ∷ n .0 = n .1 ∙ ap (λ (x : List ℕ). x ∷ n .0) (sym f) in
         record {
           rest = n .0;
           done = g .done ++ keptOne form i a;
+          last = g .last;
           ahead = rw ep (n .2);
           put = then (g .put) p;
           kept =
               append-assoc (g .done) (keptOne form i a) _ ∙ ap (λ (l : List ℕ). g .done ++ l) (sym (kept-more form i a _))
-              ∙ rw (ei, ea) (ap (λ (es : List (List ℕ)). g .done ++ keptOf form i (answersOf image s es)) (sym ra) ∙ g .kept);
-          holds = rw (ei, ea) (ap (sessionAfter image s) (sym ra) ∙ g .holds);
-          ran = rw (ei, ea) (ap (runImage image s) (sym ra) ∙ g .ran);
+              ∙ rw (ei, ea) (ap (λ (es : List (List ℕ)). g .done ++ keptOf form i (answersOf (at-rest image s) (map sentOf es))) (sym ra) ∙ g .kept);
+          ran = rw (ei, ea) (ap (λ (es : List (List ℕ)). runOf (at-rest image s) (map sentOf es)) (sym ra) ∙ g .ran);
           same-image = li ∙ g .same-image;
           same-out = ap length (p .here) ∙ put-length out to (keptOne form i a) (omega (arith, p .moved, p .fits)) ∙ g .same-out;
           few = omega (arith, g .few);
@@ -193,23 +192,19 @@ module _ (form : Form) (script : List ℕ) (image₀ out₀ : List ℕ) (at coun
 
     module _ (h : left ≤ 0) where
       over : g .rest ≡ []
-      over = last-event script left place (g .rest) h (g .ahead)
+      over = last-event script left place (g .rest) (g .last) h (g .ahead)
 
-      pub end-kept : Put out₀ at (keptOf form 1 (answersOf image₀ freshOf all)) out to
+      pub end-kept : Put out₀ at (keptOf form 1 (answersOf (begin image₀) all)) out to
       unfolding answersOf
       end-kept =
-          let e : g .done ≡ keptOf form 1 (answersOf image₀ freshOf all) =
+          let e : g .done ≡ keptOf form 1 (answersOf (begin image₀) all) =
           sym (append-nil (g .done)) ∙ ap (λ (l : List ℕ). g .done ++ l) (sym (kept-none form i))
-          ∙ ap (λ (es : List (List ℕ)). g .done ++ keptOf form i (answersOf image s es)) (sym over) ∙ g .kept in
+          ∙ ap (λ (es : List (List ℕ)). g .done ++ keptOf form i (answersOf (at-rest image s) (map sentOf es))) (sym over) ∙ g .kept in
           rw (← e) (g .put)
 
-      pub end-session : s ≡ sessionAfter image₀ freshOf all
-      unfolding sessionAfter
-      end-session = ap (sessionAfter image s) (sym over) ∙ g .holds
-
-      pub end-image : image ≡ runImage image₀ freshOf all
-      unfolding runImage
-      end-image = ap (runImage image s) (sym over) ∙ g .ran
+      pub end-state : at-rest image s ≡ runOf (begin image₀) all
+      unfolding runOf
+      end-state = ap (λ (es : List (List ℕ)). runOf (at-rest image s) (map sentOf es)) (sym over) ∙ g .ran
 
       pub end-place : to ≤ at + widthOf form * count
       end-place = room-end form to left (at + widthOf form * count) (g .room)

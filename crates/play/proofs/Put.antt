@@ -8,6 +8,7 @@ use native.Mathlib.Omega.{arith}
 use native.Mathlib.Nat.{add-zero}
 use native.Mathlib.Numerals.{add-one}
 use lib.Dec.{ltb}
+use borrow.Author.Tests.{lt-ltb, le-ltb}
 use lib.ListN.{length, take, drop, set, getD, length-append, length-drop, take-append-drop}
 use lib.Seq.{take-at, length-take-le, drop-append-add, drop-drop, set-split, take-suc}
 use Rattle.play.specs.Text.{putOf, Put, digit, decimalOf, hexDigit, hexOf}
@@ -99,3 +100,26 @@ decimal-length n = go (ltb n 10) (ltb n 100) (ltb n 1000)
     go false true v = omega arith
     go false false true = omega arith
     go false false false = omega arith
+
+-- a number's digits, by how many they are
+pub one-digit : (n a : ℕ) → n < 10 → a ≡ digit n → a ∷ [] ≡ decimalOf n
+unfolding decimalOf
+one-digit n a h p = rw (p, lt-ltb n 10 h)
+
+pub two-digits : (n a b : ℕ) → 10 ≤ n → n < 100 → a ≡ digit (n / 10) → b ≡ digit n → a ∷ b ∷ [] ≡ decimalOf n
+unfolding decimalOf
+two-digits n a b g h p q = rw (p, q, le-ltb n 10 g, lt-ltb n 100 h)
+
+pub three-digits : (n a b c : ℕ) → 10 ≤ n → 100 ≤ n → n < 1000 → a ≡ digit (n / 100) → b ≡ digit (n / 10) → c ≡ digit n → a ∷ b ∷ c ∷ [] ≡ decimalOf n
+unfolding decimalOf
+three-digits n a b c f g h p q r = rw (p, q, r, le-ltb n 10 f, le-ltb n 100 g, lt-ltb n 1000 h)
+
+pub four-digits : (n a b c d : ℕ) → 10 ≤ n → 100 ≤ n → 1000 ≤ n → a ≡ digit (n / 1000) → b ≡ digit (n / 100) → c ≡ digit (n / 10) → d ≡ digit n
+    → a ∷ b ∷ c ∷ d ∷ [] ≡ decimalOf n
+unfolding decimalOf
+four-digits n a b c d f g h p q r s = rw (p, q, r, s, le-ltb n 10 f, le-ltb n 100 g, le-ltb n 1000 h)
+
+-- a text that is a number's digits
+pub number : (n : ℕ) {out text last : List ℕ} {at next : ℕ} → Put out at text last next → text ≡ decimalOf n
+    → (Put out at (decimalOf n) last next) × (next ≤ at + 4)
+number n p e = let q = rw e at p in (q, omega (arith, q .moved, decimal-length n))

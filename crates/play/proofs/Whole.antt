@@ -1,33 +1,34 @@
 -- A lawful script as a whole, and its printout in three parts.
 -- Assumes nothing.
 use mathlib.Core.Path.{_≡_, refl, sym, _∙_, ap}
-use mathlib.Core.Bool.{Bool, true, false, false≢true}
-use mathlib.Core.List.{List}
+use mathlib.Core.Bool.{Bool, true, false, cond}
+use mathlib.Core.List.{List, map}
 use Prim.Native.Nat.{ℕ, _+_, _*_, _≤_}
 use native.Mathlib.Omega.{arith}
 use lib.Dec.{eqb, ltb}
 use lib.ListN.{length, take, drop, length-drop}
 use lib.Seq.{length-take-le, take-all}
-use borrow.Author.Tests.{ltb-true, ltb-false, eqb-true, le-leb}
-use Rattle.layout.specs.Layout.{sectorsOf, blocksIn, blocksOf}
-use Rattle.session.specs.Session.{freshOf}
-use Rattle.script.specs.Script.{Reading, lawful, refused, numberOf, imageSize, imageOf, eventCount, eventsStart, eventsFrom, readingOf}
+use borrow.Author.Tests.{ltb-true, ltb-false, eqb-false, le-leb}
+use Rattle.layout.specs.Layout.{sectorsOf, blocksOf}
+use Rattle.layout.proofs.Laws.{at-most, card-bytes}
+use Rattle.script.specs.Script.{Reading, lawful, refused, refusalIn, imageSize, imagePart, eventCount, eventsStart, Walk, walked, stopped, eventsFrom, endedAt, readingOf, stopIn, eventsOn}
 use Rattle.script.proofs.Long.{long-refused}
+use Rattle.runs.specs.Run.{begin, runOf, answersOf}
 use Rattle.play.specs.Text.{putOf, Put}
-use Rattle.play.specs.Run.{answersOf, runImage, eventsIn}
+use Rattle.play.specs.Run.{sentOf, eventsIn}
 use Rattle.play.specs.Printout.{refusalLine, headerLine, eventLines, changedFrom, playedOf, printed, printoutOf}
 use Rattle.play.proofs.Put.{put-length, then}
-use Rattle.play.proofs.Going.{is-lawful}
+use Rattle.play.proofs.Going.{through}
 
 -- what is known of a script without a refusal
 pub record Lawful (script : List ℕ) : Type 0 where
   pub known : eqb (sectorsOf (imageSize script)) 0 ≡ false
   pub there : 2 + imageSize script ≤ length script
   pub few : eventCount script ≤ 1000
-  pub rest : readingOf script ≡ eventsFrom script (eventCount script) (eventsStart script)
+  pub rest : readingOf script ≡ endedAt script (eventsFrom script (eventCount script) (eventsStart script))
 
-pub parts : (script : List ℕ) → numberOf (readingOf script) ≡ 0 → Lawful script
-unfolding readingOf numberOf
+pub parts : (script : List ℕ) → refusalIn (readingOf script) ≡ 0 → Lawful script
+unfolding readingOf refusalIn
 parts script h =
     go (ltb (length script) 2) refl (eqb (sectorsOf (imageSize script)) 0) refl (ltb (length script) (2 + imageSize script)) refl
     (ltb (length script) (4 + imageSize script)) refl (ltb 1000 (eventCount script)) refl
@@ -44,53 +45,70 @@ parts script h =
 
 -- a size that a card has
 pub size-fits : (size : ℕ) → eqb (sectorsOf size) 0 ≡ false → (size ≤ 4096) × (blocksOf size ≤ 256)
-unfolding sectorsOf blocksOf blocksIn
-size-fits size h = go (eqb size 1024) refl (eqb size 4096) refl
-  where
-    go : (t : Bool) → eqb size 1024 ≡ t → (u : Bool) → eqb size 4096 ≡ u → (size ≤ 4096) × (blocksOf size ≤ 256)
-    go true e u f = (omega (arith, eqb-true size 1024 e), rw e (omega arith))
-    go false e true f = (omega (arith, eqb-true size 4096 f), rw (e, f) (omega arith))
-    go false e false f = let q : true ≡ false = rw (e, f) at h in absurd (false≢true (sym q))
+size-fits size h = let few = at-most size .1 in (omega (arith, card-bytes size (eqb-false (sectorsOf size) 0 h)), few)
 
-module _ (script : List ℕ) (h : numberOf (readingOf script) ≡ 0) where
-  pub image-length : length (imageOf script) ≡ imageSize script
-  unfolding imageOf
+-- a reading without a refusal comes from a walk without one, and has its events
+not-stopped : (script : List ℕ) (w : Walk) → refusalIn (endedAt script w) ≡ 0 → stopIn w ≡ 0
+unfolding endedAt refusalIn stopIn
+not-stopped script (walked es place) h = refl
+not-stopped script (stopped n) h = h
+
+its-events : (script : List ℕ) (es : List (List ℕ)) (place : ℕ) → refusalIn (endedAt script (walked es place)) ≡ 0 → endedAt script (walked es place) ≡ lawful es
+unfolding endedAt refusalIn
+its-events script es place = go (ltb place (length script))
+  where
+    go : (t : Bool) → refusalIn (cond t (refused 24) (lawful es)) ≡ 0 → cond t (refused 24) (lawful es) ≡ lawful es
+    go true h = absurd (omega arith)
+    go false h = refl
+
+module _ (script : List ℕ) (h : refusalIn (readingOf script) ≡ 0) where
+  pub image-length : length (imagePart script) ≡ imageSize script
+  unfolding imagePart
   image-length =
       let r : 2 + imageSize script ≤ length script = parts script h .there in
       rw (le-leb (2 + imageSize script) (length script) r)
       (length-take-le (imageSize script) (drop 2 script) (simp length-drop (omega arith)))
 
-  pub events-lawful : numberOf (eventsFrom script (eventCount script) (eventsStart script)) ≡ 0
-  events-lawful = ap numberOf (sym (parts script h .rest)) ∙ h
+  abbrev walk : Walk
+  walk = eventsFrom script (eventCount script) (eventsStart script)
 
-  printout : printoutOf script ≡ playedOf script (eventsIn (eventsFrom script (eventCount script) (eventsStart script)))
-  unfolding printoutOf printed
-  printout = ap (printed script) (parts script h .rest ∙ is-lawful script (eventCount script) (eventsStart script) events-lawful)
+  pub events-lawful : stopIn walk ≡ 0
+  events-lawful = not-stopped script walk (ap refusalIn (sym (parts script h .rest)) ∙ h)
+
+  pub reading : readingOf script ≡ lawful (eventsOn walk)
+  reading =
+      let t = through script (eventCount script) (eventsStart script) events-lawful in
+      let e : readingOf script ≡ endedAt script (walked (eventsOn walk) (t .0)) = parts script h .rest ∙ ap (endedAt script) (t .1) in
+      e ∙ its-events script (eventsOn walk) (t .0) (ap refusalIn (sym e) ∙ h)
+
+  printout : printoutOf script ≡ playedOf script (map sentOf (eventsOn walk))
+  unfolding printoutOf printed eventsIn
+  printout = ap (printed script) reading
 
   -- header, events and changed blocks, one after the other
-  pub assembled : (out o₁ o₂ o₃ first image image′ : List ℕ) (size count start blocks t₁ t₂ t₃ : ℕ) → first ≡ imageOf script → image ≡ first
+  pub assembled : (out o₁ o₂ o₃ first image image′ : List ℕ) (size count start blocks t₁ t₂ t₃ : ℕ) → first ≡ imagePart script → image ≡ first
       → size ≡ imageSize script → count ≡ eventCount script → start ≡ eventsStart script → blocks ≡ blocksOf size
       → Put out 0 (headerLine size count) o₁ t₁
-      → Put o₁ t₁ (eventLines 1 (answersOf image freshOf (eventsIn (eventsFrom script count start)))) o₂ t₂
-      → image′ ≡ runImage image freshOf (eventsIn (eventsFrom script count start))
+      → Put o₁ t₁ (eventLines 1 (answersOf (begin image) (map sentOf (eventsOn (eventsFrom script count start))))) o₂ t₂
+      → image′ ≡ runOf (begin image) (map sentOf (eventsOn (eventsFrom script count start))) .image
       → Put o₂ t₂ (changedFrom first image′ blocks 0) o₃ t₃ → Put out 0 (printoutOf script) o₃ t₃
   unfolding playedOf
   assembled out o₁ o₂ o₃ first image image′ size count start blocks t₁ t₂ t₃ ef ei es ec ea eb p₁ p₂ er p₃ =
       rw (printout, ← ef, ← es, ← ec, ← ea) (then p₁ (then (rw ei at p₂) (rw (er, ei, eb) at p₃)))
 
 -- a refusal is printed as such
-pub refusal-printed : (script : List ℕ) (n : ℕ) → n ≡ numberOf (readingOf script) → (n ≡ 0 → ⊥) → refusalLine n ≡ printoutOf script
-unfolding printoutOf printed numberOf
+pub refusal-printed : (script : List ℕ) (n : ℕ) → n ≡ refusalIn (readingOf script) → (n ≡ 0 → ⊥) → refusalLine n ≡ printoutOf script
+unfolding printoutOf printed refusalIn
 refusal-printed script n e h = go (readingOf script) e
   where
-    go : (r : Reading) → n ≡ numberOf r → refusalLine n ≡ printed script r
+    go : (r : Reading) → n ≡ refusalIn r → refusalLine n ≡ printed script r
     go (lawful events) q = absurd (h q)
     go (refused m) q = ap refusalLine q
 
 -- what the code needs on its way, in the words of its callees
-module _ (script : List ℕ) (h : numberOf (readingOf script) ≡ 0) where
+module _ (script : List ℕ) (h : refusalIn (readingOf script) ≡ 0) where
   pub events-ready : (count start at len : ℕ) → count ≡ eventCount script → start ≡ eventsStart script → at ≤ 64 → 65536 ≤ len
-      → (count ≤ 1000) × (at + 48 * count ≤ len) × (numberOf (eventsFrom script count start) ≡ 0)
+      → (count ≤ 1000) × (at + 48 * count ≤ len) × (stopIn (eventsFrom script count start) ≡ 0)
   events-ready count start at len ec ea r l =
       let few : count ≤ 1000 = omega (arith, parts script h .few) in
       (few, omega arith, rw (ec, ea) (events-lawful script h))

@@ -6,13 +6,13 @@ use Rattle.layout.specs.Layout.{blocksOf}
 use Rattle.layout.specs.declared.Block.{Block}
 use Rattle.memory.specs.Memory.{contentOf}
 use Rattle.value.specs.Block.{same}
-use Rattle.session.specs.Session.{freshOf}
 use Rattle.card.specs.declared.Sign.{Sign}
 use Rattle.card.specs.declared.Sign.the-variants.{Ack, Nak, Data, Nothing}
 use Rattle.card.specs.declared.Answer.{Answer}
-use Rattle.script.specs.Script.{Reading, lawful, refused, imageSize, imageOf, eventCount, readingOf}
+use Rattle.script.specs.Script.{Reading, lawful, refused, imageSize, imagePart, eventCount, readingOf}
+use Rattle.runs.specs.Run.{begin, Sent, runOf, answersOf}
 use Rattle.play.specs.Text.{space, newline, decimalOf, hexOf}
-use Rattle.play.specs.Run.{answersOf, runImage}
+use Rattle.play.specs.Run.{eventsIn}
 
 -- `script`, a space and the number of the refusal
 unfoldable pub refusalLine : ℕ → List ℕ
@@ -57,15 +57,15 @@ unfoldable pub changedFrom : List ℕ → List ℕ → ℕ → ℕ → List ℕ
 changedFrom old new zero b = []
 changedFrom old new (suc n) b = changeLine old new b ++ changedFrom old new n (b + 1)
 
--- a lawful script: the header, a line for each event, and the blocks that differ at the end
-unfoldable pub playedOf : List ℕ → List (List ℕ) → List ℕ
+-- a lawful script: the header, a line for each event of its run, and the blocks that differ at the end
+unfoldable pub playedOf : List ℕ → List Sent → List ℕ
 playedOf script events =
     headerLine (imageSize script) (eventCount script)
-    ++ (eventLines 1 (answersOf (imageOf script) freshOf events)
-    ++ changedFrom (imageOf script) (runImage (imageOf script) freshOf events) (blocksOf (imageSize script)) 0)
+    ++ (eventLines 1 (answersOf (begin (imagePart script)) events)
+    ++ changedFrom (imagePart script) (runOf (begin (imagePart script)) events .image) (blocksOf (imageSize script)) 0)
 
 unfoldable pub printed : List ℕ → Reading → List ℕ
-printed script (lawful events) = playedOf script events
+printed script (lawful events) = playedOf script (eventsIn (lawful events))
 printed script (refused n) = refusalLine n
 
 -- the whole printout of any script

@@ -2,10 +2,11 @@
 ghost use mathlib.Core.Path.{_≡_};
 ghost use Prim.Native.Nat.{_+_, _*_, _≤_};
 ghost use lib.ListN.{length};
-ghost use Rattle.session.specs.Session.{freshOf};
-ghost use Rattle.script.specs.Script.{numberOf, eventsFrom};
+ghost use mathlib.Core.List.{map};
+ghost use Rattle.script.specs.Script.{eventsFrom, stopIn, eventsOn};
+ghost use Rattle.runs.specs.Run.{begin, answerTo, imageUpon, runOf, answersOf};
 ghost use Rattle.play.specs.Text.{Put};
-ghost use Rattle.play.specs.Run.{eventAnswer, eventImage, answersOf, sessionAfter, runImage, eventsIn};
+ghost use Rattle.play.specs.Run.{sentOf};
 ghost use Rattle.play.specs.Results.{widthOf, keptOne, keptOf};
 use crate::Ended;
 use crate::lines::put_event;
@@ -21,8 +22,8 @@ pub(crate) enum Form {
 
 // One event: an empty one is a field reset.
 fn event(image: &mut [u8], s: Session, frame: &[u8]) -> Answer
-    ensures { λ r. ⌜ r ≡ eventAnswer (now (image .entry)) s (now (frame .entry)) ⌝ }
-    ensures { λ _. ⌜ now (image .exit) ≡ eventImage (now (image .entry)) s (now (frame .entry)) ⌝ }
+    ensures { λ r. ⌜ r ≡ answerTo (record { image = now (image .entry); session = s }) (sentOf (now (frame .entry))) ⌝ }
+    ensures { λ _. ⌜ now (image .exit) ≡ imageUpon (record { image = now (image .entry); session = s }) (sentOf (now (frame .entry))) ⌝ }
 {
     if frame.len() == 0 {
         return card::field_reset();
@@ -52,10 +53,10 @@ pub(crate) fn keep_events(
     out: &mut [u8],
     at: usize,
 ) -> Ended
-    requires { ⌜ (count ≤ 1000) × (at + widthOf form * count ≤ length (now out)) × (numberOf (eventsFrom (now script) count start) ≡ 0) ⌝ }
-    ensures { λ r. ⌜ Put (now (out .entry)) at (keptOf form 1 (answersOf (now (image .entry)) freshOf (eventsIn (eventsFrom (now (script .entry)) count start)))) (now (out .exit)) (r .end) ⌝ }
-    ensures { λ r. ⌜ r .session ≡ sessionAfter (now (image .entry)) freshOf (eventsIn (eventsFrom (now (script .entry)) count start)) ⌝ }
-    ensures { λ _. ⌜ now (image .exit) ≡ runImage (now (image .entry)) freshOf (eventsIn (eventsFrom (now (script .entry)) count start)) ⌝ }
+    requires { ⌜ (count ≤ 1000) × (at + widthOf form * count ≤ length (now out)) × (stopIn (eventsFrom (now script) count start) ≡ 0) ⌝ }
+    ensures { λ r. ⌜ Put (now (out .entry)) at (keptOf form 1 (answersOf (begin (now (image .entry))) (map sentOf (eventsOn (eventsFrom (now (script .entry)) count start))))) (now (out .exit)) (r .end) ⌝ }
+    ensures { λ r. ⌜ r .session ≡ runOf (begin (now (image .entry))) (map sentOf (eventsOn (eventsFrom (now (script .entry)) count start))) .session ⌝ }
+    ensures { λ _. ⌜ now (image .exit) ≡ runOf (begin (now (image .entry))) (map sentOf (eventsOn (eventsFrom (now (script .entry)) count start))) .image ⌝ }
     ensures { λ r. ⌜ r .end ≤ at + widthOf form * count ⌝ }
 {
     let mut session = session::fresh();
@@ -69,7 +70,8 @@ pub(crate) fn keep_events(
         let frame = reader::bytes_of(script, found);
         let a = event(image, session, frame);
         end = keep(form, out, end, i, a);
-        session = a.session;
+        let next = a.session;
+        session = next;
         place = here.next;
         i += 1;
         left -= 1;

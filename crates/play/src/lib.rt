@@ -2,10 +2,10 @@
 ghost use mathlib.Core.Path.{_≡_};
 ghost use Prim.Native.Nat.{_≤_};
 ghost use lib.ListN.{length};
-ghost use Rattle.session.specs.Session.{freshOf};
-ghost use Rattle.script.specs.Script.{numberOf, imageSize, readingOf};
+ghost use Rattle.script.specs.Script.{refusalIn, imageSize, readingOf};
+ghost use Rattle.runs.specs.Run.{begin, runOf, answersOf};
 ghost use Rattle.play.specs.Text.{putOf, Put};
-ghost use Rattle.play.specs.Run.{answersOf, sessionAfter, runImage, eventsOf};
+ghost use Rattle.play.specs.Run.{eventsOf};
 ghost use Rattle.play.specs.Results.{resultsOf};
 ghost use Rattle.play.specs.Printout.{printoutOf};
 
@@ -26,10 +26,10 @@ pub struct Ended {
 
 // The events of a script, none of a refused one, played on any image from a fresh session. Each result takes eighteen bytes.
 pub fn run(script: &[u8], image: &mut [u8], results: &mut [u8; 18000]) -> Ended
-    ensures { λ r. ⌜ r .session ≡ sessionAfter (now (image .entry)) freshOf (eventsOf (now (script .entry))) ⌝ }
-    ensures { λ _. ⌜ now (image .exit) ≡ runImage (now (image .entry)) freshOf (eventsOf (now (script .entry))) ⌝ }
-    ensures { λ r. ⌜ r .end ≡ length (resultsOf (answersOf (now (image .entry)) freshOf (eventsOf (now (script .entry))))) ⌝ }
-    ensures { λ _. ⌜ now (results .exit) ≡ putOf (now (results .entry)) 0 (resultsOf (answersOf (now (image .entry)) freshOf (eventsOf (now (script .entry))))) ⌝ }
+    ensures { λ r. ⌜ r .session ≡ runOf (begin (now (image .entry))) (eventsOf (now (script .entry))) .session ⌝ }
+    ensures { λ _. ⌜ now (image .exit) ≡ runOf (begin (now (image .entry))) (eventsOf (now (script .entry))) .image ⌝ }
+    ensures { λ r. ⌜ r .end ≡ length (resultsOf (answersOf (begin (now (image .entry))) (eventsOf (now (script .entry))))) ⌝ }
+    ensures { λ _. ⌜ now (results .exit) ≡ putOf (now (results .entry)) 0 (resultsOf (answersOf (begin (now (image .entry))) (eventsOf (now (script .entry))))) ⌝ }
 {
     if script::refusal_of(script) != 0 {
         let session = session::fresh();
@@ -54,7 +54,7 @@ fn copy_in(from: &[u8], to: &mut [u8])
 
 // A lawful script, played on a space for its image.
 fn put_run(script: &[u8], image: &mut [u8], out: &mut [u8]) -> usize
-    requires { ⌜ (numberOf (readingOf (now script)) ≡ 0) × (length (now image) ≡ imageSize (now script)) × (65536 ≤ length (now out)) ⌝ }
+    requires { ⌜ (refusalIn (readingOf (now script)) ≡ 0) × (length (now image) ≡ imageSize (now script)) × (65536 ≤ length (now out)) ⌝ }
     ensures { λ r. ⌜ Put (now (out .entry)) 0 (printoutOf (now (script .entry))) (now (out .exit)) r ⌝ }
 {
     let first = script::image_of(script);

@@ -2,20 +2,17 @@
 use mathlib.Core.Bool.{cond}
 use mathlib.Core.List.{List, []}
 use Prim.Native.Nat.{ℕ, _+_}
-use lib.Dec.{ltb, leb}
+use lib.Dec.{eqb, ltb, leb}
 use lib.ListN.{length, getD, take, drop}
-use Rattle.script.specs.Script.{nextAt}
+use Rattle.script.specs.Script.{eventRefusal, nextAt}
 use Rattle.reader.specs.declared.Found.{Found}
 use Rattle.reader.specs.declared.Found.the-variants.{Event, End, Refused}
 use Rattle.reader.specs.declared.Step.{Step}
 
--- an event, where its bytes start and how many they are; the end; or 23 it claims more than eighteen bytes, 20 some are missing
+-- an event, where its bytes start and how many they are; the end; or the event's refusal
 unfoldable pub foundAt : List ℕ → ℕ → Found
 foundAt script at =
-    cond (ltb at (length script))
-    (cond (ltb 18 (getD script at 0)) (Refused 23)
-    (cond (ltb (length script) (at + 1 + getD script at 0)) (Refused 20) (Event (at + 1) (getD script at 0))))
-    End
+    cond (ltb at (length script)) (cond (eqb (eventRefusal script at) 0) (Event (at + 1) (getD script at 0)) (Refused (eventRefusal script at))) End
 
 -- that, and where the next event stands
 abbrev pub stepAt : List ℕ → ℕ → Step

@@ -34,14 +34,12 @@ fn found_at(script: &[u8], at: usize) -> Found
     if script.len() <= at {
         return Found::End;
     }
-    let count = wide(script[at]);
-    if 18 < count {
-        return Found::Refused(23);
+    let refusal = script::event_refusal(script, at);
+    if refusal != 0 {
+        return Found::Refused(refusal);
     }
     let start = at + 1;
-    if script.len() < start + count {
-        return Found::Refused(20);
-    }
+    let count = wide(script[at]);
     Found::Event(start, count)
 }
 

@@ -1,10 +1,14 @@
 -- Sessions and their records, both ways.
 -- Assumes nothing.
 use mathlib.Core.Path.{_≡_, refl, sym, ap}
-use mathlib.Core.Bool.{true, false}
+use mathlib.Core.Bool.{Bool, true, false, cond}
 use mathlib.Core.List.{List}
-use Prim.Native.Nat.{ℕ, _<_}
+use Prim.Native.Nat.{ℕ, _<_, _/_, _%_}
+use native.Mathlib.Omega.{arith}
+use lib.Dec.{eqb}
+use lib.ListN.{getD}
 use Rattle.access.specs.declared.rights.Letter.the-variants.{KeyA, KeyB}
+use Rattle.value.specs.Block.{wordOf}
 use Rattle.value.proofs.Blocks.{four-back, same-refl, same-eq}
 use Rattle.session.specs.declared.Auth.{Auth}
 use Rattle.session.specs.declared.Auth.the-variants.{Nobody, As}
@@ -14,7 +18,8 @@ use Rattle.session.specs.declared.Stage.the-variants.{Idle, WriteWaits, ValueWa
 use Rattle.session.specs.declared.Register.{Register}
 use Rattle.session.specs.declared.Register.the-variants.{Empty, Full}
 use Rattle.session.specs.declared.Session.{Session}
-use Rattle.record.specs.Record.{whoCode, sectorByte, stageCode, blockByte, fullCode, addressByte, valueBits, recordOf, authBy, stageBy, registerBy, valueIn, namedBy, isRecord, foundIn, strayOf, sessionFrom}
+use Rattle.record.specs.Record.{whoCode, sectorByte, stageCode, blockByte, fullCode, addressByte, valueBits, recordOf, authBy, stageBy, registerBy, valueIn, namedBy, isRecord, foundIn, strayOf, sessionIn, sessionFrom}
+use Rattle.record.specs.declared.Found.the-variants as found
 
 auth-back : (auth : Auth) → authBy (whoCode auth) (sectorByte auth) ≡ auth
 unfolding authBy
@@ -65,3 +70,24 @@ module _ (bytes : List ℕ) where
   pub no-record : isRecord bytes ≡ false → sessionFrom bytes ≡ strayOf
   unfolding sessionFrom foundIn
   no-record e = rw e
+
+  -- the value of whatever is read has 32 bits
+  pub from-small : valueBits (sessionFrom bytes .register) < 4294967296
+  unfolding sessionFrom foundIn isRecord namedBy recordOf registerBy
+  from-small = go (isRecord bytes) refl
+    where
+      four-small : (n : ℕ) → wordOf (n % 256) (n / 256 % 256) (n / 65536 % 256) (n / 16777216 % 256) < 4294967296
+      four-small n = omega arith
+
+      value-small : isRecord bytes ≡ true → valueIn bytes < 4294967296
+      value-small e =
+          let q : valueIn bytes ≡ valueIn (recordOf (namedBy bytes)) = ap valueIn (same-eq bytes (recordOf (namedBy bytes)) e) in
+          omega (arith, q, four-small (valueBits (namedBy bytes .register)))
+
+      either : (t : Bool) → valueIn bytes < 4294967296 → valueBits (cond t (Full (valueIn bytes) (getD bytes 5 0)) Empty) < 4294967296
+      either true h = h
+      either false h = omega arith
+
+      go : (t : Bool) → isRecord bytes ≡ t → valueBits (sessionIn (cond t (found.Session (namedBy bytes)) found.Nothing) .register) < 4294967296
+      go true e = either (eqb (getD bytes 4 0) 1) (value-small e)
+      go false e = omega arith

@@ -2,15 +2,16 @@
 -- Assumes nothing.
 use mathlib.Core.Path.{_≡_, refl, sym, _∙_, ap}
 use mathlib.Core.Bool.{Bool, true, false, cond}
-use mathlib.Core.List.{List}
+use mathlib.Core.List.{List, [], _∷_}
 use Prim.Native.Nat.{ℕ, zero, suc, _+_, _*_, _<_, _≤_}
 use native.Mathlib.Omega.{arith}
 use lib.Dec.{ltb, eqb}
 use lib.ListN.{length, getD, take}
 use lib.Seq.{getD-take, length-take-le, take-all}
-use borrow.Author.Tests.{ltb-true, ltb-false, eqb-true, lt-ltb, le-ltb}
+use borrow.Author.Tests.{ltb-true, ltb-false, eqb-false, lt-ltb, le-ltb}
 use Rattle.layout.specs.Layout.{sectorsOf}
-use Rattle.script.specs.Script.{Reading, refused, countAt, imageSize, eventCount, eventsStart, nextAt, before, eventsFrom, readingOf}
+use Rattle.layout.proofs.Laws.{card-bytes, at-most}
+use Rattle.script.specs.Script.{Reading, refused, countAt, imageSize, eventCount, eventsStart, eventRefusal, frameAt, nextAt, Walk, walked, stopped, before, eventsFrom, endedAt, readingOf}
 
 -- two scripts, each longer than a lawful one, that begin alike
 module _ (s t : List ℕ) (ls : 23100 < length s) (lt : 23100 < length t) (alike : (i : ℕ) → i < 23101 → getD s i 0 ≡ getD t i 0) where
@@ -18,24 +19,36 @@ module _ (s t : List ℕ) (ls : 23100 < length s) (lt : 23100 < length t) (alike
   abbrev Same : Reading → Reading → Type 0
   Same p q = (k : ℕ) × (p ≡ refused k) × (q ≡ refused k)
 
-  walk : (n at : ℕ) → at + 19 * n ≤ 23100 → Same (eventsFrom s n at) (eventsFrom t n at)
-  unfolding eventsFrom before nextAt
-  walk zero at h = (24, rw (lt-ltb at (length s) (omega arith)), rw (lt-ltb at (length t) (omega arith)))
+  -- or both walks come to one place, which has bytes after it
+  data Walks : Walk → Walk → Type 0 where
+    both-walked : (es fs : List (List ℕ)) (place : ℕ) → place ≤ 23100 → Walks (walked es place) (walked fs place)
+    both-stopped : (k : ℕ) → Walks (stopped k) (stopped k)
+
+  more : (f g : List ℕ) (p q : Walk) → Walks p q → Walks (before f p) (before g q)
+  unfolding before
+  more f g p q (both-walked es fs place h) = both-walked (f ∷ es) (g ∷ fs) place h
+  more f g p q (both-stopped k) = both-stopped k
+
+  walk : (n at : ℕ) → at + 19 * n ≤ 23100 → Walks (eventsFrom s n at) (eventsFrom t n at)
+  unfolding eventsFrom eventRefusal nextAt
+  walk zero at h = both-walked [] [] at (omega arith)
   walk (suc n) at h = go (ltb 18 (getD s at 0)) refl (λ next room. walk n next room)
     where
       first : getD t at 0 ≡ getD s at 0
       first = sym (alike at (omega arith))
 
-      go : (u : Bool) → ltb 18 (getD s at 0) ≡ u → ((next : ℕ) → next + 19 * n ≤ 23100 → Same (eventsFrom s n next) (eventsFrom t n next))
-          → Same (eventsFrom s (suc n) at) (eventsFrom t (suc n) at)
-      go true e later = (23, rw (lt-ltb at (length s) (omega arith), e), rw (lt-ltb at (length t) (omega arith), first, e))
+      go : (u : Bool) → ltb 18 (getD s at 0) ≡ u → ((next : ℕ) → next + 19 * n ≤ 23100 → Walks (eventsFrom s n next) (eventsFrom t n next))
+          → Walks (eventsFrom s (suc n) at) (eventsFrom t (suc n) at)
+      go true e later = rw (lt-ltb at (length s) (omega arith), lt-ltb at (length t) (omega arith), first, e) (both-stopped 23)
       go false e later =
           let c : getD s at 0 ≤ 18 = ltb-false 18 (getD s at 0) e in
-          let r = later (at + 1 + getD s at 0) (omega arith) in (
-            r .0,
-            rw (lt-ltb at (length s) (omega arith), e, le-ltb (length s) (at + 1 + getD s at 0) (omega arith), r .1),
-            rw (lt-ltb at (length t) (omega arith), first, e, le-ltb (length t) (at + 1 + getD s at 0) (omega arith), r .2),
-          )
+          rw (lt-ltb at (length s) (omega arith), lt-ltb at (length t) (omega arith), first, e, le-ltb (length s) (at + 1 + getD s at 0) (omega arith), le-ltb (length t) (at + 1 + getD s at 0) (omega arith))
+          (more (frameAt s at) (frameAt t at) _ _ (later (at + 1 + getD s at 0) (omega arith)))
+
+  ends : (p q : Walk) → Walks p q → Same (endedAt s p) (endedAt t q)
+  unfolding endedAt
+  ends p q (both-walked es fs place h) = (24, rw (lt-ltb place (length s) (omega arith)), rw (lt-ltb place (length t) (omega arith)))
+  ends p q (both-stopped k) = (k, refl, refl)
 
   count : (at : ℕ) → at < 23100 → countAt t at ≡ countAt s at
   unfolding countAt
@@ -46,13 +59,7 @@ module _ (s t : List ℕ) (ls : 23100 < length s) (lt : 23100 < length t) (alike
   size = count 0 (omega arith)
 
   known : eqb (sectorsOf (imageSize s)) 0 ≡ false → imageSize s ≤ 4096
-  unfolding sectorsOf
-  known h = go (eqb (imageSize s) 1024) refl (eqb (imageSize s) 4096) refl
-    where
-      go : (u : Bool) → eqb (imageSize s) 1024 ≡ u → (v : Bool) → eqb (imageSize s) 4096 ≡ v → imageSize s ≤ 4096
-      go true e v f = omega (arith, eqb-true (imageSize s) 1024 e)
-      go false e true f = omega (arith, eqb-true (imageSize s) 4096 f)
-      go false e false f = let q : true ≡ false = rw (e, f) at h in let z : _≡_ {A = ℕ} 0 1 = cc in omega arith
+  known h = omega (arith, card-bytes (imageSize s) (eqb-false (sectorsOf (imageSize s)) 0 h), at-most (imageSize s) .1)
 
   -- so both are refused with one number
   pub alike-long : Same (readingOf s) (readingOf t)
@@ -63,7 +70,7 @@ module _ (s t : List ℕ) (ls : 23100 < length s) (lt : 23100 < length t) (alike
       tail x =
           cond (ltb (length x) (2 + imageSize s)) (refused 20)
           (cond (ltb (length x) (4 + imageSize s)) (refused 20)
-          (cond (ltb 1000 (countAt x (2 + imageSize s))) (refused 22) (eventsFrom x (countAt x (2 + imageSize s)) (4 + imageSize s))))
+          (cond (ltb 1000 (countAt x (2 + imageSize s))) (refused 22) (endedAt x (eventsFrom x (countAt x (2 + imageSize s)) (4 + imageSize s)))))
 
       go : (u : Bool) → eqb (sectorsOf (imageSize s)) 0 ≡ u → Same (cond u (refused 21) (tail s)) (cond u (refused 21) (tail t))
       go true e = (21, refl, refl)
@@ -73,11 +80,11 @@ module _ (s t : List ℕ) (ls : 23100 < length s) (lt : 23100 < length t) (alike
           (few k (ltb 1000 (countAt s (2 + imageSize s))) refl)
         where
           few : imageSize s ≤ 4096 → (v : Bool) → ltb 1000 (countAt s (2 + imageSize s)) ≡ v
-              → Same (cond v (refused 22) (eventsFrom s (countAt s (2 + imageSize s)) (4 + imageSize s))) (cond v (refused 22) (eventsFrom t (countAt s (2 + imageSize s)) (4 + imageSize s)))
+              → Same (cond v (refused 22) (endedAt s (eventsFrom s (countAt s (2 + imageSize s)) (4 + imageSize s)))) (cond v (refused 22) (endedAt t (eventsFrom t (countAt s (2 + imageSize s)) (4 + imageSize s))))
           few k true f = (22, refl, refl)
           few k false f =
               let n : countAt s (2 + imageSize s) ≤ 1000 = ltb-false 1000 (countAt s (2 + imageSize s)) f in
-              walk (countAt s (2 + imageSize s)) (4 + imageSize s) (omega arith)
+              ends _ _ (walk (countAt s (2 + imageSize s)) (4 + imageSize s) (omega arith))
 
 -- a script that is too long is refused as its first 23,101 bytes are
 pub long-refused : (s : List ℕ) → 23100 < length s → (k : ℕ) × (readingOf (take 23101 s) ≡ refused k) × (readingOf s ≡ refused k)

@@ -1,22 +1,25 @@
 -- The ways out of the code, in the words of its tests.
 -- Assumes nothing.
 use mathlib.Core.Path.{_≡_, refl, sym, _∙_, ap}
+use mathlib.Core.Bool.{Bool, true, false, cond}
 use mathlib.Core.List.{List, []}
 use Prim.Native.Nat.{ℕ, suc, _+_, _-_, _<_, _≤_}
 use native.Mathlib.Omega.{arith}
+use lib.Dec.{ltb}
 use lib.ListN.{length, getD, take, drop}
-use borrow.Author.Tests.{lt-ltb, le-ltb, le-leb, lt-leb}
-use Rattle.script.specs.Script.{Reading, lawful, refused, numberOf, imageSize, imageOf, frameAt, nextAt, before, eventsFrom}
+use borrow.Author.Tests.{lt-ltb, le-ltb, le-leb, lt-leb, eq-eqb, ne-eqb}
+use Rattle.script.specs.declared.Walked.the-variants.{To, Stopped}
+use Rattle.script.specs.Script.{lawful, refused, refusalIn, imageSize, imagePart, eventRefusal, Walk, walked, stopped, frameAt, nextAt, before, eventsFrom, endedAt, placeOf, endRefusal}
 
 module _ (script : List ℕ) where
-  pub image-whole : (size : ℕ) (part : List ℕ) → size ≡ imageSize script → 2 + size ≤ length script → part ≡ take (2 + size - 2) (drop 2 script) → part ≡ imageOf script
-  unfolding imageOf
+  pub image-whole : (size : ℕ) (part : List ℕ) → size ≡ imageSize script → 2 + size ≤ length script → part ≡ take (2 + size - 2) (drop 2 script) → part ≡ imagePart script
+  unfolding imagePart
   image-whole size part e h p =
       let l : 2 + size - 2 ≡ size = omega arith in
       p ∙ rw (le-leb (2 + imageSize script) (length script) (omega arith), l, e)
 
-  pub image-short : (size : ℕ) → size ≡ imageSize script → length script < 2 + size → [] ≡ imageOf script
-  unfolding imageOf
+  pub image-short : (size : ℕ) → size ≡ imageSize script → length script < 2 + size → [] ≡ imagePart script
+  unfolding imagePart
   image-short size e h = rw (lt-leb (2 + imageSize script) (length script) (omega arith))
 
 module _ (script : List ℕ) (at : ℕ) where
@@ -28,47 +31,38 @@ module _ (script : List ℕ) (at : ℕ) where
   unfolding nextAt
   next-past h = rw (le-ltb at (length script) h)
 
-  -- the ways out of the walk over the events, with some left
-  module _ (left : ℕ) (more : 0 < left) where
+  -- a walk with some events left: it stops, or goes on
+  module _ (left : ℕ) (more : 0 < left) (n : ℕ) (e : n ≡ eventRefusal script at) where
     one-more : left ≡ suc (left - 1)
     one-more = omega arith
 
-    pub ends-soon : length script ≤ at → 20 ≡ numberOf (eventsFrom script left at)
-    unfolding eventsFrom numberOf
-    ends-soon h = rw (one-more, le-ltb at (length script) h)
+    pub stops : (n ≡ 0 → ⊥) → Stopped n ≡ placeOf (eventsFrom script left at)
+    unfolding eventsFrom placeOf
+    stops h = rw (one-more, ← e, ne-eqb n 0 h)
 
-    pub too-long : (n : ℕ) → n ≡ getD script at 0 → at < length script → 18 < n → 23 ≡ numberOf (eventsFrom script left at)
-    unfolding eventsFrom numberOf
-    too-long n e h k = rw (one-more, lt-ltb at (length script) h, lt-ltb 18 (getD script at 0) (omega arith))
+    same-place : (event : List ℕ) (w : Walk) → placeOf (before event w) ≡ placeOf w
+    unfolding before placeOf
+    same-place event (walked events place) = refl
+    same-place event (stopped m) = refl
 
-    pub cut-short : (n : ℕ) → n ≡ getD script at 0 → at < length script → n ≤ 18 → length script < at + 1 + n → 20 ≡ numberOf (eventsFrom script left at)
-    unfolding eventsFrom numberOf
-    cut-short n e h k l =
-        rw (one-more, lt-ltb at (length script) h, le-ltb 18 (getD script at 0) (omega arith), lt-ltb (length script) (at + 1 + getD script at 0) (omega arith))
-
-    same-number : (event : List ℕ) (r : Reading) → numberOf (before event r) ≡ numberOf r
-    unfolding before numberOf
-    same-number event (lawful events) = refl
-    same-number event (refused n) = refl
-
-    pub goes-on : (n : ℕ) → n ≡ getD script at 0 → at < length script → n ≤ 18 → at + 1 + n ≤ length script
-        → numberOf (eventsFrom script (left - 1) (nextAt script at)) ≡ numberOf (eventsFrom script left at)
+    pub goes-on : n ≡ 0 → placeOf (eventsFrom script (left - 1) (nextAt script at)) ≡ placeOf (eventsFrom script left at)
     unfolding eventsFrom
-    goes-on n e h k l =
+    goes-on h =
         sym
-        (ap (λ (m : ℕ). numberOf (eventsFrom script m at)) one-more
-        ∙ rw (lt-ltb at (length script) h, le-ltb 18 (getD script at 0) (omega arith), le-ltb (length script) (at + 1 + getD script at 0) (omega arith))
-        (same-number (frameAt script at) (eventsFrom script (left - 1) (nextAt script at))))
+        (ap (λ (m : ℕ). placeOf (eventsFrom script m at)) one-more
+        ∙ rw (← e, eq-eqb n 0 h) (same-place (frameAt script at) (eventsFrom script (left - 1) (nextAt script at))))
 
   -- and with none left
-  module _ (left : ℕ) (none : left ≤ 0) where
-    nothing : left ≡ 0
-    nothing = omega arith
+  pub all-walked : (left : ℕ) → left ≤ 0 → To at ≡ placeOf (eventsFrom script left at)
+  unfolding eventsFrom placeOf
+  all-walked left none = let nothing : left ≡ 0 = omega arith in rw nothing
 
-    pub something-left : at < length script → 24 ≡ numberOf (eventsFrom script left at)
-    unfolding eventsFrom numberOf
-    something-left h = rw (nothing, lt-ltb at (length script) h)
-
-    pub all-read : length script ≤ at → 0 ≡ numberOf (eventsFrom script left at)
-    unfolding eventsFrom numberOf
-    all-read h = rw (nothing, le-ltb at (length script) h)
+-- what is refused at the end is what the reading is refused for
+pub end-reading : (script : List ℕ) (w : Walk) → endRefusal (length script) (placeOf w) ≡ refusalIn (endedAt script w)
+unfolding endRefusal placeOf endedAt refusalIn
+end-reading script (walked events place) = go (ltb place (length script))
+  where
+    go : (t : Bool) → cond t 24 0 ≡ refusalIn (cond t (refused 24) (lawful events))
+    go true = refl
+    go false = refl
+end-reading script (stopped n) = refl

@@ -2,7 +2,7 @@
 ghost use mathlib.Core.Path.{_≡_};
 ghost use Prim.Native.Nat.{_<_};
 ghost use lib.ListN.{getD};
-ghost use Rattle.script.specs.Script.{numberOf, countAt, imageSize, imageOf, eventCount, eventsStart, nextAt, eventsFrom, readingOf};
+ghost use Rattle.script.specs.Script.{refusalIn, countAt, imageSize, imagePart, eventCount, eventsStart, eventRefusal, nextAt, eventsFrom, readingOf, placeOf, endRefusal};
 
 // A byte of the script; 0 past its end.
 fn byte_at(script: &[u8], at: usize) -> usize
@@ -31,7 +31,7 @@ pub fn image_size(script: &[u8]) -> usize
 
 // The image part; nothing where its bytes are not all there.
 pub fn image_of(script: &[u8]) -> &[u8]
-    ensures { λ r. ⌜ now r ≡ imageOf (now (script .entry)) ⌝ }
+    ensures { λ r. ⌜ now r ≡ imagePart (now (script .entry)) ⌝ }
 {
     let size = image_size(script);
     let end = 2 + size;
@@ -64,35 +64,59 @@ pub fn next_at(script: &[u8], at: usize) -> usize
     at
 }
 
-// The refusal of the events from a place on; 0 where there is none.
-fn events_refusal(script: &[u8], count: usize, start: usize) -> u8
-    ensures { λ r. ⌜ r ≡ numberOf (eventsFrom (now (script .entry)) count start) ⌝ }
+// The refusal of the event whose count stands at a place; 0 where there is none.
+pub fn event_refusal(script: &[u8], at: usize) -> u8
+    ensures { λ r. ⌜ r ≡ eventRefusal (now (script .entry)) at ⌝ }
 {
-    let mut at = start;
-    let mut left = count;
-    while 0 < left {
-        if script.len() <= at {
-            return 20;
-        }
-        let n = byte_at(script, at);
-        if 18 < n {
-            return 23;
-        }
-        if script.len() < at + 1 + n {
-            return 20;
-        }
-        at = next_at(script, at);
-        left -= 1;
+    if script.len() <= at {
+        return 20;
     }
-    if at < script.len() {
-        return 24;
+    let n = byte_at(script, at);
+    if 18 < n {
+        return 23;
+    }
+    if script.len() < at + 1 + n {
+        return 20;
     }
     0
 }
 
+// What a walk over events comes to: the place after the last one, or the refusal met first.
+enum Walked {
+    To(usize),
+    Stopped(u8),
+}
+
+// So many events from a place on.
+fn walk(script: &[u8], count: usize, start: usize) -> Walked
+    ensures { λ r. ⌜ r ≡ placeOf (eventsFrom (now (script .entry)) count start) ⌝ }
+{
+    let mut at = start;
+    let mut left = count;
+    while 0 < left {
+        let n = event_refusal(script, at);
+        if n != 0 {
+            return Walked::Stopped(n);
+        }
+        at = next_at(script, at);
+        left -= 1;
+    }
+    Walked::To(at)
+}
+
+// Nothing is left over after the last event.
+fn end_refusal(len: usize, end: Walked) -> u8
+    ensures { λ r. ⌜ r ≡ endRefusal len end ⌝ }
+{
+    match end {
+        Walked::To(at) => { if at < len { 24 } else { 0 } }
+        Walked::Stopped(n) => n,
+    }
+}
+
 // The refusal that is met first in the script; 0 for a lawful one.
 pub fn refusal_of(script: &[u8]) -> u8
-    ensures { λ r. ⌜ r ≡ numberOf (readingOf (now (script .entry))) ⌝ }
+    ensures { λ r. ⌜ r ≡ refusalIn (readingOf (now (script .entry))) ⌝ }
 {
     let len = script.len();
     if len < 2 {
@@ -112,5 +136,5 @@ pub fn refusal_of(script: &[u8]) -> u8
     if 1000 < count {
         return 22;
     }
-    events_refusal(script, count, events_start(script))
+    end_refusal(len, walk(script, count, events_start(script)))
 }

@@ -6,8 +6,8 @@ use borrow.Author.Needs.{needs}
 use Rattle.figures.proofs.checksums.agrees.Statement.{statement}
 use Rattle.figures.proofs.checksums.agrees.Tie as tie
 
-field-requires : tie.Need-field-requires
-field-requires c κs = search needs
+array-read-n : tie.Need-array-read-n
+array-read-n c = search needs
 
 cast-n : tie.Need-cast-n
 cast-n c = search needs
@@ -21,7 +21,7 @@ array-share-prefix-bytes c = search needs
 slice-aggregate-crc-a : tie.Need-slice-aggregate-crc-a
 slice-aggregate-crc-a c = let bytes = c .before .before .block .result in
     let sixteen : length bytes ≡ 16 = search needs in
-    omega (arith, sixteen, length-take (c .before .before .before .field .result) bytes)
+    simp length-take (omega (arith, sixteen))
 
 crc-a-requires : tie.Need-crc-a-requires
 crc-a-requires c κs = search needs
@@ -32,14 +32,14 @@ two-requires c κs = search needs
 array-read-result : tie.Need-array-read-result
 array-read-result c = search needs
 
-field-requires-2 : tie.Need-field-requires-2
-field-requires-2 c κs = search needs
-
 array-read-result-2 : tie.Need-array-read-result-2
 array-read-result-2 c = search needs
 
-field-requires-3 : tie.Need-field-requires-3
-field-requires-3 c κs = search needs
+array-read-result-3 : tie.Need-array-read-result-3
+array-read-result-3 c = search needs
+
+array-read-result-4 : tie.Need-array-read-result-4
+array-read-result-4 c = search needs
 
 returns : tie.Need-returns
 returns c = search needs
@@ -51,7 +51,7 @@ pub agrees-spec : {M : Type 1} → statement M
 agrees-spec =
     tie.close
     (tie.spec
-    field-requires
+    array-read-n
     cast-n
     block-requires
     array-share-prefix-bytes
@@ -59,8 +59,8 @@ agrees-spec =
     crc-a-requires
     two-requires
     array-read-result
-    field-requires-2
     array-read-result-2
-    field-requires-3
+    array-read-result-3
+    array-read-result-4
     returns
     returns-2)

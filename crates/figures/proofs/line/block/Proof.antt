@@ -5,19 +5,19 @@ use Rattle.figures.proofs.line.block.Statement.{statement}
 use Rattle.figures.proofs.line.block.Tie as tie
 
 abbrev Inv-loop : tie.InvT-loop
-Inv-loop text first bytes₀ i₀ bytes i = i ≤ 16
+Inv-loop f first bytes₀ i₀ bytes i = i ≤ 16
 
 abbrev μ-loop : tie.MeasureT-loop
-μ-loop text first bytes₀ i₀ bytes i = 16 - i
+μ-loop f first bytes₀ i₀ bytes i = 16 - i
 
 loop-holds : tie.Need-loop-holds Inv-loop μ-loop
 loop-holds c = search needs
 
-add-field : tie.Need-add-field Inv-loop μ-loop
-add-field c = search needs
+add-bytes : tie.Need-add-bytes Inv-loop μ-loop
+add-bytes c = search needs
 
-field-requires : tie.Need-field-requires Inv-loop μ-loop
-field-requires c κs = search needs
+array-read-bytes : tie.Need-array-read-bytes Inv-loop μ-loop
+array-read-bytes c = search needs
 
 array-write-bytes : tie.Need-array-write-bytes Inv-loop μ-loop
 array-write-bytes c = search needs
@@ -41,8 +41,8 @@ block-spec =
     Inv-loop
     μ-loop
     loop-holds
-    add-field
-    field-requires
+    add-bytes
+    array-read-bytes
     array-write-bytes
     add-i
     loop-less

@@ -5,22 +5,22 @@ use Rattle.figures.proofs.line.is_block.Statement.{statement}
 use Rattle.figures.proofs.line.is_block.Tie as tie
 
 abbrev Inv-loop : tie.InvT-loop
-Inv-loop text first bytes i₀ i = i ≤ 16
+Inv-loop f first bytes i₀ i = i ≤ 16
 
 abbrev μ-loop : tie.MeasureT-loop
-μ-loop text first bytes i₀ i = 16 - i
+μ-loop f first bytes i₀ i = 16 - i
 
 loop-holds : tie.Need-loop-holds Inv-loop μ-loop
 loop-holds c = search needs
 
-add-field : tie.Need-add-field Inv-loop μ-loop
-add-field c = search needs
-
-field-requires : tie.Need-field-requires Inv-loop μ-loop
-field-requires c κs = search needs
+add-if1 : tie.Need-add-if1 Inv-loop μ-loop
+add-if1 c = search needs
 
 array-read-if1 : tie.Need-array-read-if1 Inv-loop μ-loop
 array-read-if1 c = search needs
+
+array-read-if1-2 : tie.Need-array-read-if1-2 Inv-loop μ-loop
+array-read-if1-2 c = search needs
 
 returns : tie.Need-returns Inv-loop μ-loop
 returns c = search needs
@@ -44,9 +44,9 @@ is-block-spec =
     Inv-loop
     μ-loop
     loop-holds
-    add-field
-    field-requires
+    add-if1
     array-read-if1
+    array-read-if1-2
     returns
     add-i
     loop-less

@@ -8,10 +8,10 @@ use Rattle.figures.proofs.play.count.Statement.{statement}
 use Rattle.figures.proofs.play.count.Tie as tie
 
 abbrev Inv-loop : tie.InvT-loop
-Inv-loop figures text width agreeing₀ lines₀ at₀ agreeing lines at = (agreeing ≤ lines) × (lines ≤ at) × (at ≤ length text)
+Inv-loop figures text n width agreeing₀ lines₀ at₀ agreeing lines at = (agreeing ≤ lines) × (lines ≤ at) × (at ≤ length text)
 
 abbrev μ-loop : tie.MeasureT-loop
-μ-loop figures text width agreeing₀ lines₀ at₀ agreeing lines at = length text - at
+μ-loop figures text n width agreeing₀ lines₀ at₀ agreeing lines at = length text - at
 
 fields-of-requires : tie.Need-fields-of-requires Inv-loop μ-loop
 fields-of-requires c κs = search needs
@@ -33,6 +33,9 @@ part-rest-end c = search needs
 
 ends-at-requires : tie.Need-ends-at-requires Inv-loop μ-loop
 ends-at-requires c κs = search needs
+
+fields-requires : tie.Need-fields-requires Inv-loop μ-loop
+fields-requires c κs = search needs
 
 agrees-requires : tie.Need-agrees-requires Inv-loop μ-loop
 agrees-requires c κs = search needs
@@ -68,6 +71,7 @@ count-spec =
     part-rest-start
     part-rest-end
     ends-at-requires
+    fields-requires
     agrees-requires
     add-agreeing
     add-lines

@@ -1,7 +1,8 @@
 -- A field reset or a frame.
 use mathlib.Core.Path.{_∙_}
 use borrow.Author.Tests.{eq-eqb, ne-eqb}
-use Rattle.play.specs.Run.{eventAnswer, eventImage}
+use Rattle.runs.specs.Run.{answerTo, imageUpon}
+use Rattle.play.specs.Run.{sentOf}
 use borrow.Author.Needs.{needs}
 use Rattle.play.proofs.events.event.Statement.{statement}
 use Rattle.play.proofs.events.event.Tie as tie
@@ -10,7 +11,7 @@ field-reset-requires : tie.Need-field-reset-requires
 field-reset-requires c κs = search needs
 
 returns : tie.Need-returns
-unfolding eventAnswer eventImage
+unfolding sentOf answerTo imageUpon
 returns c = (c .field-reset .ensures ∙ rw (eq-eqb _ _ (c .before .if1 .taken)), rw (eq-eqb _ _ (c .before .if1 .taken)))
 
 step-requires : tie.Need-step-requires
@@ -20,7 +21,7 @@ same-length : tie.Need-same-length
 same-length c = search needs
 
 returns-2 : tie.Need-returns-2
-unfolding eventAnswer eventImage
+unfolding sentOf answerTo imageUpon
 returns-2 c = (c .before .before .step .ensures .0 ∙ rw (ne-eqb _ _ (c .before .before .before .before .if1 .left)), c .before .before .step .ensures .1 ∙ rw (ne-eqb _ _ (c .before .before .before .before .if1 .left)))
 
 pub event-spec : {M : Type 1} → statement M

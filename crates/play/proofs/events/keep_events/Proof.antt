@@ -1,7 +1,8 @@
 -- The loop's invariant is `Going`; the measure is the events left.
 use mathlib.Core.Path.{ap}
 use native.Mathlib.Omega.{arith}
-use Rattle.play.proofs.Going.{Going, begin, answer-room, due, turn, end-kept, end-session, end-image, end-place}
+use Rattle.runs.specs.Run.{State}
+use Rattle.play.proofs.Going.{Going, started, answer-room, due, turn, end-kept, end-state, end-place}
 use borrow.Author.Needs.{needs}
 use Rattle.play.proofs.events.keep_events.Statement.{statement}
 use Rattle.play.proofs.events.keep_events.Tie as tie
@@ -16,7 +17,7 @@ fresh-requires : tie.Need-fresh-requires Inv-loop μ-loop
 fresh-requires c κs = search needs
 
 loop-holds : tie.Need-loop-holds Inv-loop μ-loop
-loop-holds c = let p = c .before .before .before .before .pre in begin _ _ _ _ _ _ _ _ (c .fresh .ensures) (p .0) (p .1) (p .2)
+loop-holds c = let p = c .before .before .before .before .pre in started _ _ _ _ _ _ _ _ (c .fresh .ensures) (p .0) (p .1) (p .2)
 
 event-from-requires : tie.Need-event-from-requires Inv-loop μ-loop
 event-from-requires c κs = search needs
@@ -54,7 +55,8 @@ same-length-2 c = c .before .loop .inv .same-out
 returns : tie.Need-returns Inv-loop μ-loop
 returns c = let g = c .before .loop .inv in
     let h = c .loop-test .left in
-    (end-kept _ _ _ _ _ _ _ g h, (end-session _ _ _ _ _ _ _ g h, (end-image _ _ _ _ _ _ _ g h, end-place _ _ _ _ _ _ _ g h)))
+    let e = end-state _ _ _ _ _ _ _ g h in
+    (end-kept _ _ _ _ _ _ _ g h, (ap (λ (x : State). x .session) e, (ap (λ (x : State). x .image) e, end-place _ _ _ _ _ _ _ g h)))
 
 pub keep-events-spec : {M : Type 1} → statement M
 keep-events-spec =

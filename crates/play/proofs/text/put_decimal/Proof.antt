@@ -1,8 +1,5 @@
 -- As many digits as the number has.
-use mathlib.Core.Path.{_∙_}
-use native.Mathlib.Omega.{arith}
-use borrow.Author.Tests.{lt-ltb, le-ltb}
-use Rattle.play.specs.Text.{decimalOf}
+use Rattle.play.proofs.Put.{one-digit, two-digits, three-digits, four-digits, number}
 use borrow.Author.Needs.{needs}
 use Rattle.play.proofs.text.put_decimal.Statement.{statement}
 use Rattle.play.proofs.text.put_decimal.Tie as tie
@@ -20,9 +17,7 @@ same-length : tie.Need-same-length
 same-length c = search needs
 
 returns : tie.Need-returns
-unfolding decimalOf
-returns c = let p = c .before .before .put .ensures in
-    (record { here = p .here ∙ rw (c .before .before .before .before .digit-of .ensures, lt-ltb _ _ (c .before .before .before .before .before .before .if1 .taken)); moved = p .moved ∙ rw (lt-ltb _ _ (c .before .before .before .before .before .before .if1 .taken)); fits = p .fits }, omega (arith, p .moved))
+returns c = number _ (c .before .before .put .ensures) (one-digit _ _ (c .before .before .before .before .before .before .if1 .taken) (c .before .before .before .before .digit-of .ensures))
 
 digit-of-requires-2 : tie.Need-digit-of-requires-2
 digit-of-requires-2 c κs = search needs
@@ -40,9 +35,7 @@ same-length-2 : tie.Need-same-length-2
 same-length-2 c = search needs
 
 returns-2 : tie.Need-returns-2
-unfolding decimalOf
-returns-2 c = let p = c .before .before .put2 .ensures in
-    (record { here = p .here ∙ rw (c .before .before .before .before .before .digit-of2 .ensures, c .before .before .before .before .digit-of3 .ensures, le-ltb _ _ (c .before .before .before .before .before .before .before .before .if1 .left), lt-ltb _ _ (c .before .before .before .before .before .before .before .if2 .taken)); moved = p .moved ∙ rw (le-ltb _ _ (c .before .before .before .before .before .before .before .before .if1 .left), lt-ltb _ _ (c .before .before .before .before .before .before .before .if2 .taken)); fits = p .fits }, omega (arith, p .moved))
+returns-2 c = number _ (c .before .before .put2 .ensures) (two-digits _ _ _ (c .before .before .before .before .before .before .before .before .if1 .left) (c .before .before .before .before .before .before .before .if2 .taken) (c .before .before .before .before .before .digit-of2 .ensures) (c .before .before .before .before .digit-of3 .ensures))
 
 digit-of-requires-4 : tie.Need-digit-of-requires-4
 digit-of-requires-4 c κs = search needs
@@ -63,9 +56,7 @@ same-length-3 : tie.Need-same-length-3
 same-length-3 c = search needs
 
 returns-3 : tie.Need-returns-3
-unfolding decimalOf
-returns-3 c = let p = c .before .before .put3 .ensures in
-    (record { here = p .here ∙ rw (c .before .before .before .before .before .before .digit-of4 .ensures, c .before .before .before .before .before .digit-of5 .ensures, c .before .before .before .before .digit-of6 .ensures, le-ltb _ _ (c .before .before .before .before .before .before .before .before .before .before .if1 .left), le-ltb _ _ (c .before .before .before .before .before .before .before .before .before .if2 .left), lt-ltb _ _ (c .before .before .before .before .before .before .before .before .if3 .taken)); moved = p .moved ∙ rw (le-ltb _ _ (c .before .before .before .before .before .before .before .before .before .before .if1 .left), le-ltb _ _ (c .before .before .before .before .before .before .before .before .before .if2 .left), lt-ltb _ _ (c .before .before .before .before .before .before .before .before .if3 .taken)); fits = p .fits }, omega (arith, p .moved))
+returns-3 c = number _ (c .before .before .put3 .ensures) (three-digits _ _ _ _ (c .before .before .before .before .before .before .before .before .before .before .if1 .left) (c .before .before .before .before .before .before .before .before .before .if2 .left) (c .before .before .before .before .before .before .before .before .if3 .taken) (c .before .before .before .before .before .before .digit-of4 .ensures) (c .before .before .before .before .before .digit-of5 .ensures) (c .before .before .before .before .digit-of6 .ensures))
 
 digit-of-requires-7 : tie.Need-digit-of-requires-7
 digit-of-requires-7 c κs = search needs
@@ -89,9 +80,7 @@ same-length-4 : tie.Need-same-length-4
 same-length-4 c = search needs
 
 returns-4 : tie.Need-returns-4
-unfolding decimalOf
-returns-4 c = let p = c .before .before .put4 .ensures in
-    (record { here = p .here ∙ rw (c .before .before .before .before .before .before .before .digit-of7 .ensures, c .before .before .before .before .before .before .digit-of8 .ensures, c .before .before .before .before .before .digit-of9 .ensures, c .before .before .before .before .digit-of10 .ensures, le-ltb _ _ (c .before .before .before .before .before .before .before .before .before .before .before .if1 .left), le-ltb _ _ (c .before .before .before .before .before .before .before .before .before .before .if2 .left), le-ltb _ _ (c .before .before .before .before .before .before .before .before .before .if3 .left)); moved = p .moved ∙ rw (le-ltb _ _ (c .before .before .before .before .before .before .before .before .before .before .before .if1 .left), le-ltb _ _ (c .before .before .before .before .before .before .before .before .before .before .if2 .left), le-ltb _ _ (c .before .before .before .before .before .before .before .before .before .if3 .left)); fits = p .fits }, omega (arith, p .moved))
+returns-4 c = number _ (c .before .before .put4 .ensures) (four-digits _ _ _ _ _ (c .before .before .before .before .before .before .before .before .before .before .before .if1 .left) (c .before .before .before .before .before .before .before .before .before .before .if2 .left) (c .before .before .before .before .before .before .before .before .before .if3 .left) (c .before .before .before .before .before .before .before .digit-of7 .ensures) (c .before .before .before .before .before .before .digit-of8 .ensures) (c .before .before .before .before .before .digit-of9 .ensures) (c .before .before .before .before .digit-of10 .ensures))
 
 pub put-decimal-spec : {M : Type 1} → statement M
 put-decimal-spec =
