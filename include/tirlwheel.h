@@ -86,7 +86,8 @@ uint32_t tirlwheel_field_reset(uint8_t session[12], uint8_t reply[16]);
  * buffer; the rest of the buffer stays as it was. Gives the printout's length. A script that is refused (20 to 24) prints one line. */
 size_t tirlwheel_play(const uint8_t *script, size_t script_len, uint8_t printout[65536]);
 
-/* Which boundary this is: 1. A change that a caller would notice counts it up. */
+/* Which boundary this is: 3. A change that a caller would notice counts it up: 2 came with frames that have their checksum, 3 with the
+ * refusal of an operand below zero (13). */
 uint32_t tirlwheel_version(void);
 
 #ifdef __cplusplus

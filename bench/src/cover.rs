@@ -1,9 +1,12 @@
-//! What a differential run has met: each number, each command, each row of each table with each key and operation.
+//! What a differential run has met: each number, each command, each row of each table with each key and operation; and each turn of `turns`.
 
+use crate::frames::MORE;
+use crate::images::{RIGHT_SIZES, WRONG_SIZES};
 use crate::layout::{bytes_of, group_of, has_block, is_image, is_trailer, sector_of, trailer_of, TRAILER_GROUP};
 use crate::record::Record;
 use crate::rights::AccessBits;
 use crate::seals;
+use crate::turns;
 use std::collections::BTreeMap;
 
 /// Each thing that a full run must have met this often.
@@ -15,19 +18,16 @@ const UNSEALED: u8 = 14;
 const FIELD_RESET: &str = "field reset";
 const HALT: &str = "Halt";
 const AUTHENTICATE: &str = "Authenticate";
-const ON_DATA: [&str; 10] = [
-    "Read",
-    "Write",
-    "Write's data",
-    "increment",
-    "increment's operand",
-    "decrement",
-    "decrement's operand",
-    "restore",
-    "restore's operand",
-    "Transfer",
-];
-const ON_TRAILER: [&str; 4] = [AUTHENTICATE, "Read", "Write", "Write's data"];
+pub const READ: &str = "Read";
+pub const WRITE_DATA: &str = "Write's data";
+pub const INCREMENT_OPERAND: &str = "increment's operand";
+pub const DECREMENT_OPERAND: &str = "decrement's operand";
+const RESTORE_OPERAND: &str = "restore's operand";
+const ON_DATA: [&str; 10] =
+    [READ, "Write", WRITE_DATA, "increment", INCREMENT_OPERAND, "decrement", DECREMENT_OPERAND, "restore", RESTORE_OPERAND, "Transfer"];
+const ON_TRAILER: [&str; 4] = [AUTHENTICATE, READ, "Write", WRITE_DATA];
+/// How the names of things begin, one for each group of them.
+const GROUPS: [&str; 10] = ["number", "command", "sealed", "data", "trailer", "memory", "turn", "end", "length", "size"];
 
 pub struct Cover {
     met: BTreeMap<String, u64>,
@@ -39,33 +39,8 @@ const CARELESS: &str = "memory command after a refused Authenticate";
 impl Cover {
     /// Everything that is to be met, met zero times.
     pub fn new() -> Cover {
-        let mut met = BTreeMap::new();
-        let mut expect = |name: String| met.insert(name, 0);
-        for number in NUMBERS {
-            expect(number_name(number));
-            expect(sealed_name(&number_name(number)));
-        }
-        for command in ON_DATA.into_iter().chain([AUTHENTICATE, HALT, FIELD_RESET]) {
-            expect(command_name(command));
-        }
-        for command in ON_DATA.into_iter().chain([AUTHENTICATE, HALT]) {
-            expect(sealed_name(&format!("{command} accepted")));
-        }
-        for way in seals::WRONG.into_iter().chain([HALT]) {
-            expect(wrong_name(way));
-        }
-        for row in 0..8 {
-            for letter in ['A', 'B'] {
-                for command in ON_DATA {
-                    expect(row_name("data", row, letter, command));
-                }
-                for command in ON_TRAILER {
-                    expect(row_name("trailer", row, letter, command));
-                }
-            }
-        }
-        expect(CARELESS.to_string());
-        Cover { met, after_refused_authenticate: false }
+        let things = answers().into_iter().chain(rows()).chain([CARELESS.to_string()]);
+        Cover { met: things.map(|name| (name, 0)).collect(), after_refused_authenticate: false }
     }
 
     fn meet(&mut self, name: &str) {
@@ -87,6 +62,9 @@ impl Cover {
         self.meet(&number_name(number));
         let Some(met) = met else { return };
         self.meet(&command_name(met.command));
+        if matches!(number, 0 | 10) {
+            met.turns.iter().for_each(|turn| self.meet(turn));
+        }
         let authenticate = met.command == AUTHENTICATE;
         if self.after_refused_authenticate && !authenticate && met.command != HALT {
             self.meet(CARELESS);
@@ -111,7 +89,29 @@ impl Cover {
             (0, None, Some(met)) => self.meet(&sealed_name(&format!("{} accepted", met.command))),
             _ => (),
         }
+        if let (0 | 10, Some(met)) = (number, &met) {
+            met.turns.iter().for_each(|turn| self.meet(&sealed_name(turn)));
+        }
         self.frame(met.filter(|_| number != UNSEALED), number);
+    }
+
+    /// An image of so many bytes.
+    pub fn size(&mut self, bytes: usize) {
+        self.meet(&size_name(bytes));
+    }
+
+    /// A frame that met `session` and was refused for its length; counted where it would be a command without its last 256 or 65,536 bytes.
+    pub fn length(&mut self, session: &Record, frame: &[u8]) {
+        for more in MORE {
+            let Some(end) = frame.len().checked_sub(more) else { return };
+            if let Some((command, _)) = command_of(session, &frame[..end]).filter(|(command, _)| fits(command, end)) {
+                self.meet(&length_name(command, more));
+            }
+        }
+    }
+
+    pub fn has_met(&self, name: &str) -> bool {
+        self.met[name] > 0
     }
 
     /// The thing that was met least often, of those whose name starts so.
@@ -121,7 +121,7 @@ impl Cover {
     }
 
     pub fn line(&self) -> String {
-        let least = ["number", "command", "sealed", "data", "trailer", "memory"].map(|start| self.least(start));
+        let least = GROUPS.map(|start| self.least(start));
         format!("least met: {}", least.join("; "))
     }
 
@@ -129,9 +129,12 @@ impl Cover {
         self.met.iter().filter(|(_, count)| **count < ENOUGH).map(|(name, count)| format!("{name} {count}")).collect()
     }
 
-    pub fn print_counts(&self, start: &str) {
-        for (name, count) in self.met.iter().filter(|(name, _)| name.starts_with(start)) {
-            println!("  {name:36} {count:9}");
+    /// Every group but the rows of the tables, which are many.
+    pub fn print_counts(&self) {
+        for start in GROUPS.into_iter().filter(|start| !["data", "trailer"].contains(start)) {
+            for (name, count) in self.met.iter().filter(|(name, _)| name.starts_with(start)) {
+                println!("  {name:52} {count:9}");
+            }
         }
     }
 
@@ -140,12 +143,50 @@ impl Cover {
     }
 }
 
+/// What there is to meet apart from the rows of the tables.
+fn answers() -> Vec<String> {
+    let mut names = vec![];
+    for number in NUMBERS {
+        names.extend([number_name(number), sealed_name(&number_name(number))]);
+    }
+    for command in ON_DATA.into_iter().chain([AUTHENTICATE, HALT]) {
+        names.extend([command_name(command), sealed_name(&format!("{command} accepted"))]);
+        names.extend(MORE.map(|more| length_name(command, more)));
+    }
+    names.push(command_name(FIELD_RESET));
+    names.extend(seals::WRONG.into_iter().chain([HALT]).map(wrong_name));
+    for turn in turns::ALL {
+        names.extend([turn.to_string(), sealed_name(turn)]);
+    }
+    names.extend(RIGHT_SIZES.into_iter().chain(WRONG_SIZES).map(size_name));
+    names
+}
+
+fn rows() -> Vec<String> {
+    let mut names = vec![];
+    for row in 0..8 {
+        for letter in ['A', 'B'] {
+            names.extend(ON_DATA.map(|command| row_name("data", row, letter, command)));
+            names.extend(ON_TRAILER.map(|command| row_name("trailer", row, letter, command)));
+        }
+    }
+    names
+}
+
 fn number_name(number: u8) -> String {
     format!("number {number:2}")
 }
 
 fn command_name(command: &str) -> String {
     format!("command {command}")
+}
+
+fn length_name(command: &str, more: usize) -> String {
+    format!("length of {command} and {more} more")
+}
+
+fn size_name(bytes: usize) -> String {
+    format!("size {bytes}")
 }
 
 fn sealed_name(what: &str) -> String {
@@ -164,17 +205,18 @@ fn row_name(table: &str, row: u8, letter: char, command: &str) -> String {
 pub struct Met {
     command: &'static str,
     row: Option<String>,
+    turns: Vec<&'static str>,
 }
 
-/// None where the frame is no command of the card.
-pub fn met(image: &[u8], session: &Record, frame: &[u8]) -> Option<Met> {
-    let (command, block) = match (session[2], frame) {
-        (1, _) => ("Write's data", session[3]),
-        (2, _) => ("increment's operand", session[3]),
-        (3, _) => ("decrement's operand", session[3]),
-        (4, _) => ("restore's operand", session[3]),
+/// What a frame is and for which block, or None where it is no command of the card. Second frames may have any length.
+fn command_of(session: &Record, frame: &[u8]) -> Option<(&'static str, u8)> {
+    Some(match (session[2], frame) {
+        (1, _) => (WRITE_DATA, session[3]),
+        (2, _) => (INCREMENT_OPERAND, session[3]),
+        (3, _) => (DECREMENT_OPERAND, session[3]),
+        (4, _) => (RESTORE_OPERAND, session[3]),
         (_, [0x60 | 0x61, block, _, _, _, _, _, _]) => (AUTHENTICATE, *block),
-        (_, [0x30, block]) => ("Read", *block),
+        (_, [0x30, block]) => (READ, *block),
         (_, [0xA0, block]) => ("Write", *block),
         (_, [0xC1, block]) => ("increment", *block),
         (_, [0xC0, block]) => ("decrement", *block),
@@ -182,14 +224,29 @@ pub fn met(image: &[u8], session: &Record, frame: &[u8]) -> Option<Met> {
         (_, [0xB0, block]) => ("Transfer", *block),
         (_, [0x50, 0x00]) => (HALT, 0),
         _ => return None,
-    };
+    })
+}
+
+/// Has this command's frame so many bytes?
+fn fits(command: &str, length: usize) -> bool {
+    match command {
+        WRITE_DATA => length == 16,
+        INCREMENT_OPERAND | DECREMENT_OPERAND | RESTORE_OPERAND => length == 4,
+        _ => true,
+    }
+}
+
+/// None where the frame is no command of the card.
+pub fn met(image: &[u8], session: &Record, frame: &[u8]) -> Option<Met> {
+    let (command, block) = command_of(session, frame)?;
     let letter = match (command, session[0]) {
         (AUTHENTICATE, _) => char::from(b'A' + frame[0] - 0x60),
         (_, 1) => 'A',
         _ => 'B',
     };
     let row = if command == HALT { None } else { row_met(image, block, letter, command) };
-    Some(Met { command, row })
+    let turns = if row.is_some() && fits(command, frame.len()) { turns::of(bytes_of(image, block), block, command, frame) } else { vec![] };
+    Some(Met { command, row, turns })
 }
 
 fn row_met(image: &[u8], block: u8, letter: char, command: &str) -> Option<String> {

@@ -19,7 +19,7 @@ const fn table() -> [u16; 256] {
 const fn eight_shifts(mut crc: u16) -> u16 {
     let mut bit = 0;
     while bit < 8 {
-        crc = crc >> 1 ^ (crc & 1) * POLYNOMIAL;
+        crc = (crc >> 1) ^ ((crc & 1) * POLYNOMIAL);
         bit += 1;
     }
     crc

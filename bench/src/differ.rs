@@ -10,11 +10,16 @@ use crate::reader::{Reader, Sent};
 use crate::record::Record;
 use crate::seals;
 use crate::sessions;
+use crate::turns;
 
 const CALLS_PER_LINE: u64 = 100_000;
 const CALLS_PER_IMAGE: usize = 24;
 /// From this many calls on, everything must have been met often enough.
 const FULL_RUN: u64 = 1_000_000;
+/// The ends of the range must have been met in the first calls already.
+const FIRST_CALLS: u64 = 1_000;
+/// How much of a frame is printed.
+const SHOWN: usize = 40;
 /// Bytes on either side of a lent image, which no card may touch.
 const MARGIN: usize = 16;
 
@@ -61,12 +66,12 @@ struct Differ {
     calls: u64,
     /// How many of a hundred frames have a checksum.
     sealed_share: usize,
+    ends_met_at_first: bool,
 }
 
 /// Gives whether no difference was met (and, in a full run, whether enough was covered).
 pub fn run(seed: u64, count: u64) -> bool {
-    let mut differ =
-        Differ { random: Random::new(seed), cover: Cover::new(), library: Side::new(&[]), rust: Side::new(&[]), calls: 0, sealed_share: 0 };
+    let mut differ = Differ::new(seed);
     while differ.calls < count {
         let image = images::any_size(&mut differ.random);
         (differ.library, differ.rust) = (Side::new(&image), Side::new(&image));
@@ -81,6 +86,11 @@ pub fn run(seed: u64, count: u64) -> bool {
 }
 
 impl Differ {
+    fn new(seed: u64) -> Differ {
+        let (library, rust) = (Side::new(&[]), Side::new(&[]));
+        Differ { random: Random::new(seed), cover: Cover::new(), library, rust, calls: 0, sealed_share: 0, ends_met_at_first: false }
+    }
+
     fn forged_calls(&mut self) -> bool {
         (0..CALLS_PER_IMAGE).all(|_| {
             self.cover.start_anew();
@@ -102,17 +112,22 @@ impl Differ {
         })
     }
 
-    /// A share of the frames gets a checksum.
-    fn sealed(&mut self, sent: Sent) -> Sent {
-        match sent {
-            Sent::Frame(frame) if self.random.percent(self.sealed_share) => Sent::Sealed(seals::any(&mut self.random, &frame)),
-            _ => sent,
+    /// Some frames get longer, and a share of them gets a checksum.
+    fn on_the_air(&mut self, sent: Sent) -> Sent {
+        let Sent::Frame(mut frame) = sent else { return sent };
+        if self.random.percent(4) {
+            frames::lengthen(&mut self.random, &mut frame);
+        }
+        if self.random.percent(self.sealed_share) {
+            Sent::Sealed(seals::any(&mut self.random, &frame))
+        } else {
+            Sent::Frame(frame)
         }
     }
 
     /// Gives whether both cards did the same.
     fn call(&mut self, sent: Sent) -> bool {
-        let sent = &self.sealed(sent);
+        let sent = &self.on_the_air(sent);
         let (session, met) = (self.rust.session, self.met(sent));
         self.library.send(&LIBRARY, sent);
         self.rust.send(&RUST, sent);
@@ -121,15 +136,32 @@ impl Differ {
             self.describe(&session, sent);
             return false;
         }
-        match sent {
-            Sent::Frame(_) => self.cover.frame(met, self.rust.result as u8),
-            Sent::Sealed(frame) => self.cover.sealed(frame, met, self.rust.result as u8),
-            Sent::FieldReset => self.cover.field_reset(),
-        }
+        self.count(&session, sent, met);
         if self.calls.is_multiple_of(CALLS_PER_LINE) {
             println!("{:8} calls, no difference; {}", self.calls, self.cover.line());
         }
         true
+    }
+
+    /// Counts what a call was about, which met `session` and was answered.
+    fn count(&mut self, session: &Record, sent: &Sent, met: Option<cover::Met>) {
+        let number = self.rust.result as u8;
+        self.cover.size(self.rust.image().len());
+        match sent {
+            Sent::Frame(frame) | Sent::Sealed(frame) if number == 1 => {
+                let bare = if matches!(sent, Sent::Sealed(_)) { seals::inner(frame) } else { frame };
+                self.cover.length(session, bare);
+            }
+            _ => (),
+        }
+        match sent {
+            Sent::Frame(_) => self.cover.frame(met, number),
+            Sent::Sealed(frame) => self.cover.sealed(frame, met, number),
+            Sent::FieldReset => self.cover.field_reset(),
+        }
+        if self.calls == FIRST_CALLS {
+            self.ends_met_at_first = turns::ENDS.iter().all(|end| self.cover.has_met(end));
+        }
     }
 
     fn met(&self, sent: &Sent) -> Option<cover::Met> {
@@ -142,8 +174,8 @@ impl Differ {
 
     fn describe(&self, session: &Record, sent: &Sent) {
         match sent {
-            Sent::Frame(frame) => println!("  frame {frame:02X?}"),
-            Sent::Sealed(frame) => println!("  sealed frame {frame:02X?}"),
+            Sent::Frame(frame) => println!("  frame of {} bytes {:02X?}", frame.len(), &frame[..frame.len().min(SHOWN)]),
+            Sent::Sealed(frame) => println!("  sealed frame of {} bytes {:02X?}", frame.len(), &frame[..frame.len().min(SHOWN)]),
             Sent::FieldReset => println!("  field reset"),
         }
         println!("  image of {} bytes, session {session:02X?}", self.rust.image().len());
@@ -158,13 +190,11 @@ impl Differ {
 
     fn report(&self, seed: u64, count: u64) -> bool {
         println!("seed {seed}: {} calls, no difference", self.calls);
-        self.cover.print_counts("number");
-        self.cover.print_counts("command");
-        self.cover.print_counts("sealed");
-        self.cover.print_counts("memory");
+        self.cover.print_counts();
         let thin = self.cover.thin();
         println!("{} of {} things met at least {ENOUGH} times", self.cover.things() - thin.len(), self.cover.things());
         thin.iter().for_each(|thing| println!("  too seldom: {thing}"));
-        thin.is_empty() || count < FULL_RUN
+        println!("both ends of the range met in the first {FIRST_CALLS} calls: {}", if self.ends_met_at_first { "yes" } else { "no" });
+        thin.is_empty() && self.ends_met_at_first || count < FULL_RUN
     }
 }

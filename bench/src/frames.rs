@@ -1,15 +1,19 @@
 //! Random frames: each command to each kind of block, second frames, wrong lengths, unknown codes, noise.
 
 use crate::images;
-use crate::layout::{blocks_of, bytes_of, has_block, sector_of, trailer_of};
+use crate::layout::{blocks_of, bytes_of, has_block, sector_of, sectors, trailer_of, BlockBytes, BLOCK_BYTES};
 use crate::random::Random;
+use crate::value::Value;
 
-/// The second frame that a reader takes to be awaited.
+/// So many bytes more make the same length, where one byte or two bytes of it are looked at.
+pub const MORE: [usize; 2] = [256, 65536];
+
+/// The second frame that a reader takes to be awaited, and for which block.
 #[derive(Clone, Copy, PartialEq, Eq)]
 pub enum Awaited {
     Nothing,
-    Data,
-    Operand,
+    Data(u8),
+    Operand(u8),
 }
 
 /// A frame for a sector of an image, as a reader would send it that takes `awaited` to be awaited.
@@ -18,25 +22,65 @@ pub fn any(random: &mut Random, image: &[u8], sector: u8, awaited: Awaited) -> V
         return noise(random);
     }
     match awaited {
-        Awaited::Data => data(random),
-        Awaited::Operand => images::number(random).to_le_bytes().to_vec(),
+        Awaited::Data(block) => data(random, stored(image, block)).to_vec(),
+        Awaited::Operand(block) => operand(random, stored(image, block)).to_le_bytes().to_vec(),
         Awaited::Nothing => command(random, image, sector),
     }
 }
 
-fn data(random: &mut Random) -> Vec<u8> {
-    if random.percent(50) {
-        images::trailer(random).to_vec()
-    } else {
-        images::data(random).to_vec()
+/// What the block holds, if the image has it.
+fn stored(image: &[u8], block: u8) -> Option<&BlockBytes> {
+    has_block(image, block).then(|| bytes_of(image, block))
+}
+
+fn data(random: &mut Random, stored: Option<&BlockBytes>) -> BlockBytes {
+    match stored {
+        Some(bytes) if random.percent(40) => nearly(random, *bytes),
+        _ if random.percent(50) => images::trailer(random),
+        _ => images::data(random),
     }
+}
+
+/// The same but for one bit, for the last byte, or for one byte that may be any.
+fn nearly(random: &mut Random, mut bytes: BlockBytes) -> BlockBytes {
+    match random.below(4) {
+        0 => bytes[BLOCK_BYTES - 1] = random.byte(),
+        1 => bytes[random.below(BLOCK_BYTES)] = random.byte(),
+        _ => bytes[random.below(BLOCK_BYTES)] ^= 1 << random.below(8),
+    }
+    bytes
+}
+
+/// A Write from its Authenticate on, by a reader who knows the key, of data that differ from the block's in little.
+pub fn small_change(random: &mut Random, image: &[u8]) -> [Vec<u8>; 3] {
+    let sector = random.below(usize::from(sectors(image))) as u8;
+    let (block, code) = (block(random, sector), random.pick(&[0x60, 0x61]));
+    let key = stored_key(image, block, code);
+    let data = stored(image, block).map_or([0; BLOCK_BYTES], |bytes| nearly(random, *bytes));
+    [[&[code, block], &key[..]].concat(), vec![0xA0, block], data.to_vec()]
+}
+
+/// For a value, often what takes it to the end of the range on its own side of zero, or one further.
+fn operand(random: &mut Random, stored: Option<&BlockBytes>) -> i32 {
+    let value = stored.and_then(Value::decode);
+    let to_the_end = value.map(|Value { number, .. }| if number < 0 { number - i32::MIN } else { i32::MAX - number });
+    match (random.below(20), to_the_end) {
+        (0..=6, Some(operand)) => operand,
+        (7..=11, Some(operand)) => operand.wrapping_add(1),
+        _ => images::number(random),
+    }
+}
+
+/// More bytes behind a frame, so that only a card that looks at its whole length sees that it is none.
+pub fn lengthen(random: &mut Random, frame: &mut Vec<u8>) {
+    frame.resize(frame.len() + random.pick(&MORE), random.byte());
 }
 
 fn command(random: &mut Random, image: &[u8], sector: u8) -> Vec<u8> {
     let block = block(random, sector);
     match random.below(100) {
         0..=11 => authenticate(random, image, block),
-        12..=13 => vec![0x50, 0x00],
+        12..=14 => vec![0x50, 0x00],
         _ => vec![random.pick(&[0x30, 0x30, 0xA0, 0xA0, 0xC0, 0xC1, 0xC2, 0xB0]), block],
     }
 }

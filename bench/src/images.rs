@@ -4,7 +4,9 @@ use crate::layout::{bytes_of_mut, is_trailer, BlockBytes, BLOCK_BYTES};
 use crate::random::Random;
 use crate::value::Value;
 
-const WRONG_SIZES: [usize; 12] = [0, 1, 16, 1008, 1023, 1025, 1040, 2048, 4080, 4095, 4097, 4112];
+pub const RIGHT_SIZES: [usize; 2] = [1024, 4096];
+/// The last two are a card's where only two bytes of the length are looked at.
+pub const WRONG_SIZES: [usize; 14] = [0, 1, 16, 1008, 1023, 1025, 1040, 2048, 4080, 4095, 4097, 4112, 1024 + 65536, 4096 + 65536];
 const NUMBERS_AT_THE_EDGE: [i32; 8] = [0, 1, -1, 100, i32::MAX, i32::MIN, i32::MAX - 1, i32::MIN + 1];
 const TRANSPORT_BITS: [u8; 3] = [0xFF, 0x07, 0x80];
 
@@ -19,7 +21,7 @@ pub fn any_size(random: &mut Random) -> Vec<u8> {
 }
 
 pub fn right_size(random: &mut Random) -> Vec<u8> {
-    let mut image = vec![0; random.pick(&[1024, 4096])];
+    let mut image = vec![0; random.pick(&RIGHT_SIZES)];
     for block in 0..image.len() / BLOCK_BYTES {
         let block = block as u8;
         *bytes_of_mut(&mut image, block) = if is_trailer(block) { trailer(random) } else { data(random) };
@@ -62,10 +64,10 @@ pub fn trailer(random: &mut Random) -> BlockBytes {
 }
 
 fn key(random: &mut Random) -> [u8; 6] {
-    if random.percent(30) {
-        [0xFF; 6]
-    } else {
-        random.bytes()
+    match random.below(20) {
+        0..=5 => [0xFF; 6],
+        6..=9 => [0; 6],
+        _ => random.bytes(),
     }
 }
 

@@ -20,6 +20,7 @@ mod seals;
 mod sessions;
 mod speed;
 mod stack;
+mod turns;
 mod value;
 
 use calls::{LIBRARY, RUST};

@@ -37,8 +37,8 @@ impl Reader {
             frames::any(random, image, self.sector, self.awaited)
         };
         self.awaited = match (self.awaited, &frame[..]) {
-            (Awaited::Nothing, [0xA0, _]) => Awaited::Data,
-            (Awaited::Nothing, [0xC0..=0xC2, _]) => Awaited::Operand,
+            (Awaited::Nothing, [0xA0, block]) => Awaited::Data(*block),
+            (Awaited::Nothing, [0xC0..=0xC2, block]) => Awaited::Operand(*block),
             _ => Awaited::Nothing,
         };
         Sent::Frame(frame)

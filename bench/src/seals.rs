@@ -1,6 +1,7 @@
 //! Frames with a checksum behind them, right or wrong in each way that a card must tell from right.
 
 use crate::crc::seal_of;
+use crate::frames::{self, MORE};
 use crate::random::Random;
 
 /// A bare frame with its checksum, in most a right one.
@@ -14,6 +15,7 @@ pub fn any(random: &mut Random, frame: &[u8]) -> Vec<u8> {
         3 => sealed.truncate(frame.len() + 1),
         4 => sealed[frame.len()..].copy_from_slice(&random.bytes::<2>()),
         5 => sealed = short(random),
+        6 => frames::lengthen(random, &mut sealed),
         _ => (),
     }
     sealed
@@ -37,7 +39,8 @@ fn short(random: &mut Random) -> Vec<u8> {
 }
 
 /// The ways in which a frame gets 14.
-pub const WRONG: [&str; 7] = ["empty", "one byte", "63 63", "two bytes", "bytes exchanged", "one bit of it", "another"];
+pub const WRONG: [&str; 9] =
+    ["empty", "one byte", "63 63", "two bytes", "bytes exchanged", "one bit of it", "another", "right and 256 more", "right and 65536 more"];
 
 /// The way in which this one's checksum is wrong, or None where it is right.
 pub fn wrong(sealed: &[u8]) -> Option<&'static str> {
@@ -53,10 +56,18 @@ pub fn wrong(sealed: &[u8]) -> Option<&'static str> {
     let bits = (sent[0] ^ low).count_ones() + (sent[1] ^ high).count_ones();
     match bits {
         0 => None,
+        _ if is_right_before(sealed, MORE[0]) => Some("right and 256 more"),
+        _ if is_right_before(sealed, MORE[1]) => Some("right and 65536 more"),
         1 => Some("one bit of it"),
         _ if *sent == [high, low] => Some("bytes exchanged"),
         _ => Some("another"),
     }
+}
+
+/// Is what stands before the last bytes a frame with a right checksum?
+fn is_right_before(sealed: &[u8], count: usize) -> bool {
+    let before = sealed.len().checked_sub(count).and_then(|end| sealed[..end].split_last_chunk());
+    before.is_some_and(|(bytes, seal)| !bytes.is_empty() && *seal == seal_of(bytes))
 }
 
 /// The bytes before the checksum, which the card judges where it is right.

@@ -1,7 +1,7 @@
 -- What an act gives back, and what it leaves behind. Refusals are cases like any other.
 use mathlib.Core.Bool.{cond, _||_}
 use mathlib.Core.List.{List}
-use Prim.Native.Nat.{ℕ}
+use Prim.Native.Nat.{ℕ, _+_, _*_}
 use lib.Dec.{eqb}
 use Rattle.layout.specs.declared.Block.{Block}
 use Rattle.memory.specs.Memory.{sixteenOf, contentOf, storeOf}
@@ -16,7 +16,7 @@ use Rattle.session.specs.declared.Register.the-variants.{Empty, Full}
 use Rattle.session.specs.declared.Session.{Session}
 use Rattle.judge.specs.declared.Act.{Act}
 use Rattle.judge.specs.declared.Act.the-variants.{Refused, Authenticated, Shown, TrailerShown, WriteWaits, ValueWaits, Stored, TrailerStored, Loaded, Moved, Halted}
-use Rattle.judge.specs.Grant.{writableBy}
+use Rattle.judge.specs.Checks.{writableBy}
 use Rattle.card.specs.Trailer.{zeros, shownTrailer, mixedOf}
 use Rattle.card.specs.declared.Sign.{Sign}
 use Rattle.card.specs.declared.Sign.the-variants.{Ack, Nak, Data, Nothing}
@@ -58,6 +58,10 @@ signCode Ack = 0
 signCode Nak = 1
 signCode Data = 2
 signCode Nothing = 3
+
+-- a number and a sign in one: the number in the low byte, the sign's in the next
+abbrev pub packedOf : ℕ → Sign → ℕ
+packedOf number sign = number + 256 * signCode sign
 
 -- the sixteen reply bytes: zeros but for an accepted Read, which shows its block; a trailer as its bits m say
 unfoldable pub replyOf : List ℕ → Act → List ℕ

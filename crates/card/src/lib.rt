@@ -1,7 +1,7 @@
 // The card: one frame, one answer.
 ghost use mathlib.Core.Path.{_≡_};
 ghost use Prim.Native.Nat.{_<_};
-ghost use Rattle.card.specs.Effects.{signCode};
+ghost use Rattle.card.specs.Effects.{signCode, packedOf};
 ghost use Rattle.card.specs.Step.{answerOf, imageAfter, resetOf, noSessionOf};
 
 mod outcome;
@@ -30,6 +30,19 @@ pub fn sign_code(sign: Sign) -> u8
         Sign::Data => 2,
         Sign::Nothing => 3,
     }
+}
+
+fn wide(b: u8) -> u32
+    ensures { λ r. ⌜ (r ≡ b) × (r < 256) ⌝ }
+{
+    b as u32
+}
+
+// A number and a sign in one, for those who hand over a single number.
+pub fn packed(number: u8, sign: Sign) -> u32
+    ensures { λ r. ⌜ r ≡ packedOf number sign ⌝ }
+{
+    wide(number) + 256 * wide(sign_code(sign))
 }
 
 // The number (0 is accepted), the sign, the sixteen reply bytes and the session afterwards.

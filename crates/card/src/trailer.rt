@@ -3,7 +3,7 @@ ghost use mathlib.Core.Path.{_≡_};
 ghost use mathlib.Core.Bool.{cond};
 ghost use Prim.Native.Nat.{_-_, _≤_};
 ghost use Rattle.access.specs.Rights.{readableOf};
-ghost use Rattle.judge.specs.Grant.{writableBy};
+ghost use Rattle.judge.specs.Checks.{writableBy};
 ghost use Rattle.card.specs.Trailer.{joinOf, shownTrailer, mixedOf};
 ghost use Rattle.card.specs.Code.{patchedOf, sightOf, seenOf};
 use access::Parts;

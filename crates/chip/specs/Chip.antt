@@ -1,14 +1,9 @@
--- An answer to a sealed frame as C sees it: one number, with the session beside it as its record.
+-- An answer to a sealed frame as C sees it: the session is its record of twelve bytes.
 use mathlib.Core.List.{List}
-use Prim.Native.Nat.{ℕ, _+_, _*_}
+use Prim.Native.Nat.{ℕ}
 use Rattle.record.specs.Record.{sessionFrom}
-use Rattle.card.specs.Effects.{signCode}
 use Rattle.sealed.specs.Sealed.{sealedAnswerOf, sealedImageAfter}
 use Rattle.sealed.specs.declared.SealedAnswer.{SealedAnswer}
-
--- the number in the low byte, the sign's in the next
-abbrev pub packed : SealedAnswer → ℕ
-packed a = a .number + 256 * signCode (a .sign)
 
 -- the answer to a sealed frame and the image after it, for a session that came as twelve bytes
 abbrev pub chipAnswer : List ℕ → List ℕ → List ℕ → SealedAnswer

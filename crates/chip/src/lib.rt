@@ -1,20 +1,14 @@
 // The boundary for a board that hands frames over as its reader chip does, with their checksum. It is a library of its own: so each library calls the card in one place, and the compiler builds the card into that call.
 ghost use mathlib.Core.Path.{_≡_};
-ghost use Prim.Native.Nat.{_<_};
+ghost use Rattle.card.specs.Effects.{packedOf};
 ghost use Rattle.record.specs.Record.{recordOf};
-ghost use Rattle.chip.specs.Chip.{packed, chipAnswer, chipImage};
+ghost use Rattle.chip.specs.Chip.{chipAnswer, chipImage};
 use record::Found;
 use sealed::SealedAnswer;
 
-fn wide(b: u8) -> u32
-    ensures { λ r. ⌜ (r ≡ b) × (r < 256) ⌝ }
-{
-    b as u32
-}
-
 // An answer handed over: its session as a record, its reply, and its number and sign in one.
 fn give(a: SealedAnswer, session: &mut [u8; 12], reply: &mut [u8; 18]) -> u32
-    ensures { λ r. ⌜ r ≡ packed a ⌝ }
+    ensures { λ r. ⌜ r ≡ packedOf (a .number) (a .sign) ⌝ }
     ensures { λ _. ⌜ now (session .exit) ≡ recordOf (a .session) ⌝ }
     ensures { λ _. ⌜ now (reply .exit) ≡ a .reply ⌝ }
 {
@@ -24,7 +18,7 @@ fn give(a: SealedAnswer, session: &mut [u8; 12], reply: &mut [u8; 18]) -> u32
     let number = a.number;
     *session = record::encode(next);
     *reply = bytes;
-    wide(number) + 256 * wide(card::sign_code(sign))
+    card::packed(number, sign)
 }
 
 // One frame with its checksum. The session's record is replaced by the next one, and the reply is filled. A field reset has neither frame nor checksum: it is `edge`'s.
@@ -35,7 +29,7 @@ pub extern "C" fn tirlwheel_sealed_frame(
     frame: &[u8],
     reply: &mut [u8; 18],
 ) -> u32
-    ensures { λ r. ⌜ r ≡ packed (chipAnswer (now (image .entry)) (now (session .entry)) (now (frame .entry))) ⌝ }
+    ensures { λ r. ⌜ r ≡ packedOf (chipAnswer (now (image .entry)) (now (session .entry)) (now (frame .entry)) .number) (chipAnswer (now (image .entry)) (now (session .entry)) (now (frame .entry)) .sign) ⌝ }
     ensures { λ _. ⌜ now (session .exit) ≡ recordOf (chipAnswer (now (image .entry)) (now (session .entry)) (now (frame .entry)) .session) ⌝ }
     ensures { λ _. ⌜ now (reply .exit) ≡ chipAnswer (now (image .entry)) (now (session .entry)) (now (frame .entry)) .reply ⌝ }
     ensures { λ _. ⌜ now (image .exit) ≡ chipImage (now (image .entry)) (now (session .entry)) (now (frame .entry)) ⌝ }

@@ -3,7 +3,7 @@
 use mathlib.Core.Path.{_≡_, refl, sym, _∙_, ap}
 use mathlib.Core.Bool.{true}
 use mathlib.Core.List.{List, [], _∷_, map}
-use Prim.Native.Nat.{ℕ, _+_, _*_, _<_}
+use Prim.Native.Nat.{ℕ, _<_}
 use native.Mathlib.Omega.{arith}
 use base.Fml.{Lft}
 use lib.ListN.{replicate}
@@ -21,7 +21,7 @@ use Rattle.session.specs.declared.Session.{Session}
 use Rattle.judge.specs.Judge.{totalFor}
 use Rattle.judge.specs.declared.Act.{Act}
 use Rattle.judge.specs.declared.Act.the-variants.{Refused, Authenticated, Shown, TrailerShown, WriteWaits, ValueWaits, Stored, TrailerStored, Loaded, Moved, Halted}
-use Rattle.card.specs.Effects.{signCode, sessionOf}
+use Rattle.card.specs.Effects.{packedOf, sessionOf}
 use Rattle.record.specs.Record.{valueBits, recordOf, sessionFrom}
 use Rattle.record.proofs.Laws.{reads-back, from-small}
 use Rattle.script.specs.Script.{Reading, lawful, readingOf}
@@ -87,7 +87,7 @@ pub boundary-demand-1 : (l : Lent) (e : Sent) → BoundaryDemand1 l e
 boundary-demand-1 l e =
     let d = demand-1 (stateOf l) e in
     let refuses : (r : Row) → Met r (asked (stateOf l) e) (table (stateOf l) e)
-    → given l e ≡ record { result = r .number + 256 * signCode (r .air); reply = noReply e; left = record { image = l .image; bytes = replicate 12 0 } } = λ r m.
+    → given l e ≡ record { result = packedOf (r .number) (r .air); reply = noReply e; left = record { image = l .image; bytes = replicate 12 0 } } = λ r m.
     let q = d .refuses r m in
     rw (q .0, q .1, zeros-are-fresh .1) in
     record {

@@ -1,7 +1,7 @@
 -- Demand 1: the judgement of what is sent goes by the table, row by row.
 -- Assumes nothing.
 use mathlib.Core.Path.{_≡_, refl, _∙_, ap}
-use mathlib.Core.Bool.{Bool, true, false, not, _&&_, cond}
+use mathlib.Core.Bool.{Bool, true, false, not, cond}
 use mathlib.Core.List.{List, [], _∷_}
 use Prim.Native.Nat.{ℕ}
 use native.Mathlib.Omega.{arith}
@@ -10,7 +10,6 @@ use Rattle.layout.specs.Layout.{sectorOf, isTrailer}
 use Rattle.layout.specs.declared.Block.{Block}
 use Rattle.memory.specs.Memory.{contentOf}
 use Rattle.access.specs.declared.rights.Operation.the-variants as column
-use Rattle.access.specs.declared.rights.Parts.{Parts}
 use Rattle.value.specs.Block.{bitsIn, addressIn}
 use Rattle.value.specs.Sum.{totalOf, isNegative, ruledOf}
 use Rattle.value.specs.Whole.{signed, bits, inRange}
@@ -25,11 +24,9 @@ use Rattle.frame.specs.declared.Command.{Command}
 use Rattle.frame.specs.declared.Command.the-variants.{Unknown, Authenticate, Read, Write, Store, Begin, Apply, Transfer, Halt}
 use Rattle.judge.specs.First.{Check, check, first, ruled}
 use Rattle.judge.specs.Checks.{noCard, incoherent, memoryChecks, checksOf, authenticateChecks, frameChecks}
-use Rattle.judge.specs.Grant.{trailerGrant, grantOf}
-use Rattle.judge.specs.Judge.{totalFor, loadOf, appliedOf, moveOf, shownAs, storedAs, doneOf, commandedOf, judgeOf}
-use Rattle.judge.specs.declared.checks.Verdict.the-variants.{Whole, InParts}
+use Rattle.judge.specs.Judge.{totalFor, loadOf, appliedOf, moveOf, trailerBits, shownOf, storedOf, doneOf, commandedOf, judgeOf}
 use Rattle.judge.specs.declared.Act.{Act}
-use Rattle.judge.specs.declared.Act.the-variants.{Refused, Authenticated, Loaded, Moved, Halted}
+use Rattle.judge.specs.declared.Act.the-variants.{Refused, Authenticated, Shown, TrailerShown, Stored, TrailerStored, Loaded, Moved, Halted}
 use Rattle.card.specs.Effects.{numberOf, refusedSign, signOf, replyOf, sessionOf, imageOf}
 use Rattle.card.specs.Step.{answered, answerOf, imageAfter}
 use Rattle.sealed.specs.Sealed.{innerOf, unsealed, sealedActOf, sealedOf, sealedAnswerOf, sealedImageAfter}
@@ -121,32 +118,34 @@ module _ (image : List ℕ) (s : Session) (frame : List ℕ) where
         let last : Act → Act = λ x. rule (Transfer b) (rowsOf (memoryChecks image (s .auth) column.Decrement b)) x in
         (n .0, n .1, by-rows (Transfer b) (checksOf image s (Transfer b) frame) _ ∙ ap last (n .2))
 
-    -- what is granted of a block is shown or stored, and no refusal
-    shown-0 : (t : Bool) (p : Parts) (m : ℕ) → numberOf (shownAs b (cond t (trailerGrant column.Read p m) Whole)) ≡ 0
-    unfolding numberOf shownAs trailerGrant
-    shown-0 true p m = refl
-    shown-0 false p m = refl
-
-    stored-0 : (t : Bool) (p : Parts) (m : ℕ) → numberOf (storedAs b (cond t (trailerGrant column.Write p m) Whole)) ≡ 0
-    unfolding numberOf storedAs trailerGrant
-    stored-0 true p m = part (p .a && p .bits && p .b)
+    -- what is shown or stored is no refusal
+    shown-0 : numberOf (shownOf image b) ≡ 0
+    unfolding numberOf shownOf
+    shown-0 = go (isTrailer b)
       where
-        part : (all : Bool) → numberOf (storedAs b (cond all Whole (InParts m))) ≡ 0
-        part true = refl
-        part false = refl
-    stored-0 false p m = refl
+        go : (t : Bool) → numberOf (cond t (TrailerShown b (trailerBits image b)) (Shown b)) ≡ 0
+        go true = refl
+        go false = refl
+
+    stored-0 : numberOf (storedOf image b) ≡ 0
+    unfolding numberOf storedOf
+    stored-0 = go (isTrailer b)
+      where
+        go : (t : Bool) → numberOf (cond t (TrailerStored b (trailerBits image b)) (Stored b)) ≡ 0
+        go true = refl
+        go false = refl
 
   halts : Follows Halt
   unfolding numberOf commandedOf checksOf doneOf first ruled
   halts = (Halted, refl, refl)
 
   follows : (c : Command) → Follows c
-  unfolding numberOf commandedOf checksOf authenticateChecks memoryChecks grantOf doneOf first ruled
+  unfolding numberOf commandedOf checksOf authenticateChecks memoryChecks doneOf first ruled
   follows Unknown = (Halted, refl, refl)
   follows (Authenticate b l) = (Authenticated (sectorOf b) l, refl, by-rows (Authenticate b l) (authenticateChecks image l b frame) _)
-  follows (Read b) = (_, shown-0 b (isTrailer b) _ _, by-rows (Read b) (checksOf image s (Read b) frame) _)
+  follows (Read b) = (_, shown-0 b, by-rows (Read b) (checksOf image s (Read b) frame) _)
   follows (Write b) = (_, refl, by-rows (Write b) (checksOf image s (Write b) frame) _)
-  follows (Store b) = (_, stored-0 b (isTrailer b) _ _, by-rows (Store b) (checksOf image s (Store b) frame) _)
+  follows (Store b) = (_, stored-0 b, by-rows (Store b) (checksOf image s (Store b) frame) _)
   follows (Begin b k) = (_, refl, by-rows (Begin b k) (checksOf image s (Begin b k) frame) _)
   follows (Apply b k) = applied b k
   follows (Transfer b) = moved b

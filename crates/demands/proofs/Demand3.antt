@@ -8,7 +8,7 @@ use lib.Dec.{eqb}
 use lib.IntN.{ℤ, _+ℤ_, +ℤ-assoc, +ℤ-idr}
 use lib.ListN.{length}
 use borrow.Author.Tests.{eqb-true, eqb-false, not-true}
-use Rattle.layout.specs.Layout.{hasBlock}
+use Rattle.layout.specs.Layout.{hasBlock, blockAt}
 use Rattle.layout.specs.declared.Block.{Block}
 use Rattle.memory.specs.Memory.{contentOf, storeOf}
 use Rattle.memory.proofs.Laws.{store-back, store-other}
@@ -22,8 +22,7 @@ use Rattle.session.specs.declared.Kind.{Kind}
 use Rattle.session.specs.declared.Kind.the-variants.{Increment, Decrement, Restore}
 use Rattle.session.specs.declared.Register.{Register}
 use Rattle.session.specs.declared.Register.the-variants.{Full}
-use Rattle.frame.specs.Command.{blockAt}
-use Rattle.judge.specs.Grant.{writableBy}
+use Rattle.judge.specs.Checks.{writableBy}
 use Rattle.judge.specs.Judge.{totalFor}
 use Rattle.judge.specs.declared.Act.{Act}
 use Rattle.judge.specs.declared.Act.the-variants.{Refused, Authenticated, Shown, TrailerShown, WriteWaits, ValueWaits, Stored, TrailerStored, Loaded, Moved, Halted}

@@ -15,6 +15,7 @@ use Rattle.card.proofs.field_reset.Reads as field-reset-contract
 use Rattle.card.proofs.no_session.Reads as no-session-contract
 use Rattle.card.proofs.refusal.Reads as refusal-contract
 use Rattle.card.proofs.sign_code.Reads as sign-code-contract
+use Rattle.card.proofs.packed.Reads as packed-contract
 use Rattle.demands.specs.One.{OneResult}
 use Rattle.demands.proofs.Exact.{exact}
 
@@ -45,3 +46,6 @@ no-session bytes = exact
 
 pub sign-code : (sign : Sign) → OneResult (λ r. sign-code-contract.Post tt (sign, tt) r (sign, tt))
 sign-code sign r r′ p q = p .0 ∙ sym (q .0)
+
+pub packed : (number : ℕ) (sign : Sign) → OneResult (λ r. packed-contract.Post tt (number, (sign, tt)) r (number, (sign, tt)))
+packed number sign = exact

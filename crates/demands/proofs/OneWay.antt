@@ -10,7 +10,7 @@ use lib.IntN.{ℤ, pos, _-ℤ_}
 use lib.ListN.{length}
 use lib.Signed.{leZ}
 use borrow.Author.Tests.{eq-eqb, eqb-true, eqb-false, ltb-true, ltb-false, le-ltb, not-true}
-use Rattle.layout.specs.Layout.{hasBlock, sectorOf, trailerOf, isTrailer, groupOf}
+use Rattle.layout.specs.Layout.{hasBlock, sectorOf, trailerOf, isTrailer, groupOf, sectorAt}
 use Rattle.layout.specs.declared.Block.{Block}
 use Rattle.layout.specs.declared.Sector.{Sector}
 use Rattle.layout.specs.declared.Group.{Group}
@@ -38,8 +38,7 @@ use Rattle.session.specs.declared.Kind.{Kind}
 use Rattle.session.specs.declared.Kind.the-variants.{Increment, Decrement, Restore}
 use Rattle.session.specs.declared.Register.the-variants.{Empty, Full}
 use Rattle.session.specs.declared.Session.{Session}
-use Rattle.judge.specs.Checks.{accessOf, isForbidden, kindColumn, rightOf, hasRight, noRight}
-use Rattle.judge.specs.Grant.{writableBy}
+use Rattle.judge.specs.Checks.{accessOf, isForbidden, kindColumn, rightOf, hasRight, noRight, writableBy}
 use Rattle.judge.specs.Judge.{totalFor}
 use Rattle.judge.specs.declared.Act.{Act}
 use Rattle.judge.specs.declared.Act.the-variants.{Refused, Authenticated, Shown, TrailerShown, WriteWaits, ValueWaits, Stored, TrailerStored, Loaded, Moved, Halted}
@@ -48,7 +47,7 @@ use Rattle.runs.specs.Run.{State, begin, runOf}
 use Rattle.runs.specs.Watch.{nothingNoted}
 use Rattle.laws.specs.Accepted.{Allowed, Load, Accepted}
 use Rattle.laws.proofs.Lengths.{sixteen-length, mixed-length}
-use Rattle.laws.proofs.Laws.{sectorAt, block-eq}
+use Rattle.laws.proofs.Laws.{block-eq}
 use Rattle.laws.proofs.Keeps.{keeps}
 use Rattle.demands.specs.Demand3.{deedOf, isWrite}
 use Rattle.demands.specs.OneWay.{accessIn, RideSector, DataBlock, AtMost, OneWay, NoneEver}

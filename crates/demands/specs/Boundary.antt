@@ -1,12 +1,11 @@
 -- The demands at the exported calls: a board lends an image and twelve bytes of any content, and makes one call after the other.
 use mathlib.Core.Path.{_≡_}
 use mathlib.Core.List.{List, [], _∷_}
-use Prim.Native.Nat.{ℕ, _+_, _*_, _%_, _<_}
+use Prim.Native.Nat.{ℕ, _%_, _<_}
 use lib.ListN.{replicate}
 use Rattle.session.specs.Session.{freshOf}
-use Rattle.card.specs.Effects.{signCode}
+use Rattle.card.specs.Effects.{packedOf}
 use Rattle.record.specs.Record.{valueBits, recordOf, sessionFrom}
-use Rattle.edge.specs.Edge.{packed}
 use Rattle.runs.specs.Run.{State, begin, Sent, answerTo, imageUpon, runOf}
 use Rattle.demands.specs.Demand1.{Row, table, asked, noReply, Met}
 
@@ -30,7 +29,7 @@ pub record Given : Type 0 where
 
 abbrev pub givenBy : State → Sent → Given
 givenBy st e =
-    record { result = packed (answerTo st e); reply = answerTo st e .reply; left = lentOf (record { image = imageUpon st e; session = answerTo st e .session }) }
+    record { result = packedOf (answerTo st e .number) (answerTo st e .sign); reply = answerTo st e .reply; left = lentOf (record { image = imageUpon st e; session = answerTo st e .session }) }
 
 -- what is owed for whatever is lent
 abbrev pub given : Lent → Sent → Given
@@ -39,9 +38,9 @@ given l e = givenBy (stateOf l) e
 -- demand 1: a row that is met refuses, with twelve zeros for the session; and nothing else does
 pub record BoundaryDemand1 (l : Lent) (e : Sent) : Type 0 where
   pub refuses : (r : Row) → Met r (asked (stateOf l) e) (table (stateOf l) e)
-      → given l e ≡ record { result = r .number + 256 * signCode (r .air); reply = noReply e; left = record { image = l .image; bytes = replicate 12 0 } }
+      → given l e ≡ record { result = packedOf (r .number) (r .air); reply = noReply e; left = record { image = l .image; bytes = replicate 12 0 } }
   pub alone : (given l e .result % 256 ≡ 0 → ⊥)
-      → (r : Row) × Met r (asked (stateOf l) e) (table (stateOf l) e) × (given l e .result ≡ r .number + 256 * signCode (r .air))
+      → (r : Row) × Met r (asked (stateOf l) e) (table (stateOf l) e) × (given l e .result ≡ packedOf (r .number) (r .air))
 
 -- twelve zeros are the fresh session, both ways
 abbrev pub ZerosAreFresh : Type 0

@@ -5,7 +5,7 @@ use mathlib.Core.List.{List, [], _∷_, _++_, map}
 use Prim.Native.Nat.{ℕ, zero, suc}
 use lib.IntN.{ℤ, pos, negsuc}
 use lib.ListN.{replicate}
-use Rattle.layout.specs.Layout.{trailerOf}
+use Rattle.layout.specs.Layout.{blockAt, sectorAt, trailerOf}
 use Rattle.layout.specs.declared.Block.{Block}
 use Rattle.layout.specs.declared.Sector.{Sector}
 use Rattle.memory.specs.Memory.{contentOf}
@@ -33,9 +33,6 @@ transport = trailerWith (0xFF ∷ 0x07 ∷ 0x80 ∷ [])
 abbrev pub blankSectors : ℕ → List ℕ
 blankSectors zero = []
 blankSectors (suc n) = replicate 48 0 ++ (transport ++ blankSectors n)
-
-abbrev pub blockNo : ℕ → Block
-blockNo n = record { 0 = n }
 
 -- authenticate with key A for a block
 abbrev pub login : ℕ → List ℕ
@@ -76,7 +73,7 @@ purseEvents =
     ∷ []
 
 abbrev pub PurseRun : Type 0
-PurseRun = CountedRun purseCard (blockNo 4) 100 102 4 (pos 2) purseEvents (0 ∷ 0 ∷ 0 ∷ 0 ∷ 0 ∷ 0 ∷ 10 ∷ 14 ∷ 0 ∷ 0 ∷ 0 ∷ 0 ∷ 0 ∷ 0 ∷ [])
+PurseRun = CountedRun purseCard (blockAt 4) 100 102 4 (pos 2) purseEvents (0 ∷ 0 ∷ 0 ∷ 0 ∷ 0 ∷ 0 ∷ 10 ∷ 14 ∷ 0 ∷ 0 ∷ 0 ∷ 0 ∷ 0 ∷ 0 ∷ [])
 
 -- a 4K card whose block 129, in its first large sector, holds 7 with address byte 200
 unfoldable pub largeCard : List ℕ
@@ -106,7 +103,7 @@ largeEvents =
     ∷ []
 
 abbrev pub LargeRun : Type 0
-LargeRun = CountedRun largeCard (blockNo 129) 7 5 200 (negsuc 1) largeEvents (0 ∷ 0 ∷ 0 ∷ 0 ∷ 0 ∷ 0 ∷ 3 ∷ 0 ∷ 0 ∷ 0 ∷ 0 ∷ 3 ∷ 0 ∷ 0 ∷ 0 ∷ 0 ∷ [])
+LargeRun = CountedRun largeCard (blockAt 129) 7 5 200 (negsuc 1) largeEvents (0 ∷ 0 ∷ 0 ∷ 0 ∷ 0 ∷ 0 ∷ 3 ∷ 0 ∷ 0 ∷ 0 ∷ 0 ∷ 3 ∷ 0 ∷ 0 ∷ 0 ∷ 0 ∷ [])
 
 -- a 1K card whose sector 1 has the bits 001 throughout, with 50 in block 4 and 30 in block 5
 unfoldable pub rideCard : List ℕ
@@ -114,7 +111,7 @@ rideCard =
     blankSectors 1 ++ ((encodeOf (pos 50) 4 ++ (encodeOf (pos 30) 5 ++ (replicate 16 0 ++ trailerWith (0xFF ∷ 0x00 ∷ 0xF0 ∷ [])))) ++ blankSectors 14)
 
 abbrev pub rideSector : Sector
-rideSector = record { 0 = 1 }
+rideSector = sectorAt 1
 
 unfoldable pub rideEvents : List Sent
 rideEvents =
@@ -135,5 +132,5 @@ pub record RideRun : Type 0 where
   pub rides : RideSector rideCard rideSector
   pub unwritten : NotWritten (trailerOf rideSector) (begin rideCard) rideEvents
   pub answered : map (λ (x : Answer). x .number) (answersOf (begin rideCard) rideEvents) ≡ 0 ∷ 0 ∷ 13 ∷ 3 ∷ 0 ∷ 0 ∷ 0 ∷ 0 ∷ []
-  pub largest : decodeOf (contentOf (runOf (begin rideCard) rideEvents .image) (blockNo 4)) ≡ Value 50 4
-  pub risen : decodeOf (contentOf (runOf (begin rideCard) rideEvents .image) (blockNo 5)) ≡ Value 49 4
+  pub largest : decodeOf (contentOf (runOf (begin rideCard) rideEvents .image) (blockAt 4)) ≡ Value 50 4
+  pub risen : decodeOf (contentOf (runOf (begin rideCard) rideEvents .image) (blockAt 5)) ≡ Value 49 4

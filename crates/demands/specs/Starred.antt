@@ -4,8 +4,7 @@ use mathlib.Core.Bool.{Bool, true, false}
 use mathlib.Core.List.{List, [], _∷_, map}
 use Prim.Native.Nat.{ℕ, _+_}
 use lib.IntN.{ℤ, pos, negsuc}
-use Rattle.layout.specs.Layout.{sectorOf, isTrailer, groupOf, groupNumber}
-use Rattle.layout.specs.declared.Block.{Block}
+use Rattle.layout.specs.Layout.{blockAt, sectorOf, isTrailer, groupOf, groupNumber}
 use Rattle.layout.specs.declared.Group.{Group}
 use Rattle.layout.specs.declared.Group.the-variants.{First, Second, Third, Trailer}
 use Rattle.access.specs.Bits.{bitsOf}
@@ -40,56 +39,53 @@ pub data Question : Type 0 where
   minus : ℤ → ℤ → Question
 
 -- what it is owed
-pub data Answer : Type 0 where
-  number : ℕ → Answer
-  yes-no : Bool → Answer
+pub data Owed : Type 0 where
+  number : ℕ → Owed
+  yes-no : Bool → Owed
   -- C1 C2 C3 as a binary number
-  three-bits : ℕ → Answer
-  blocked : Answer
-  bytes : List ℕ → Answer
-  value-at : ℤ → ℕ → Answer
-  no-value-block : Answer
-  sum : ℤ → Answer
-  refused : ℕ → Answer
+  three-bits : ℕ → Owed
+  blocked : Owed
+  bytes : List ℕ → Owed
+  value-at : ℤ → ℕ → Owed
+  no-value-block : Owed
+  sum : ℤ → Owed
+  refused : ℕ → Owed
 
-abbrev pub blockNumber : ℕ → Block
-blockNumber n = record { 0 = n }
-
-abbrev pub accessAnswer : Bits → Answer
+abbrev pub accessAnswer : Bits → Owed
 accessAnswer (Are n) = three-bits n
 accessAnswer Blocked = blocked
 
-abbrev pub decodeAnswer : Decoded → Answer
+abbrev pub decodeAnswer : Decoded → Owed
 decodeAnswer (Value v a) = value-at (signed v) a
 decodeAnswer NoValue = no-value-block
 
 -- an operand below zero and a sum that leaves the range are refused, each with the card's own number for it
-abbrev pub sumAnswer : Total → Answer
+abbrev pub sumAnswer : Total → Owed
 sumAnswer (Fits v) = sum (signed v)
 sumAnswer Negative = refused (numberOf (loadOf Negative 0))
 sumAnswer Outside = refused (numberOf (loadOf Outside 0))
 
 -- the answer of the definitions; block 128 is the first of a large sector
-unfoldable pub answer : Question → Answer
-answer (sector-of b) = number (sectorOf (blockNumber b) .0)
-answer (trailer? b) = yes-no (isTrailer (blockNumber b))
-answer (large-group o) = number (groupNumber (groupOf (blockNumber (128 + o))))
+unfoldable pub answer : Question → Owed
+answer (sector-of b) = number (sectorOf (blockAt b) .0)
+answer (trailer? b) = yes-no (isTrailer (blockAt b))
+answer (large-group o) = number (groupNumber (groupOf (blockAt (128 + o))))
 answer (access x y z g) = accessAnswer (bitsOf (record { 0 = x; 1 = y; 2 = z }) g)
 answer (encode v a) = bytes (encodeOf v a)
 answer (decode b) = decodeAnswer (decodeOf b)
 answer (plus v x) = sumAnswer (totalFor Increment (bits v) (bits x))
 answer (minus v x) = sumAnswer (totalFor Decrement (bits v) (bits x))
 
-pub record Row : Type 0 where
+pub record Line : Type 0 where
   pub asks : Question
-  pub owes : Answer
+  pub owes : Owed
 
 infix 3 _⇒_
-abbrev pub _⇒_ : Question → Answer → Row
+abbrev pub _⇒_ : Question → Owed → Line
 q ⇒ a = record { asks = q; owes = a }
 
 -- the table; `negsuc n` is -n - 1
-unfoldable pub starred : List Row
+unfoldable pub starred : List Line
 starred =
     -- 1: the sectors of blocks 127, 128 and 255
     (sector-of 127 ⇒ number 31)
@@ -135,5 +131,5 @@ starred =
     ∷ []
 
 -- the one statement: every question has the answer that is owed
-abbrev pub Right : List Row → Type 0
-Right rows = map (λ (r : Row). answer (r .asks)) rows ≡ map (λ (r : Row). r .owes) rows
+abbrev pub Right : List Line → Type 0
+Right rows = map (λ (r : Line). answer (r .asks)) rows ≡ map (λ (r : Line). r .owes) rows

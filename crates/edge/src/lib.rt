@@ -1,23 +1,17 @@
 // The boundary to C and Rust: numbers, lent bytes, and the session as its record of twelve bytes.
 ghost use mathlib.Core.Path.{_≡_};
-ghost use Prim.Native.Nat.{_<_};
+ghost use Rattle.card.specs.Effects.{packedOf};
 ghost use Rattle.card.specs.Step.{resetOf};
 ghost use Rattle.record.specs.Record.{recordOf};
-ghost use Rattle.edge.specs.Edge.{packed, frameAnswer, frameImage, versionOf};
+ghost use Rattle.edge.specs.Edge.{frameAnswer, frameImage, versionOf};
 use card::Answer;
 use record::Found;
 
-const VERSION: u32 = 1;
-
-fn wide(b: u8) -> u32
-    ensures { λ r. ⌜ (r ≡ b) × (r < 256) ⌝ }
-{
-    b as u32
-}
+const VERSION: u32 = 3;
 
 // An answer handed over: its session as a record, its reply, and its number and sign in one.
 fn give(a: Answer, session: &mut [u8; 12], reply: &mut [u8; 16]) -> u32
-    ensures { λ r. ⌜ r ≡ packed a ⌝ }
+    ensures { λ r. ⌜ r ≡ packedOf (a .number) (a .sign) ⌝ }
     ensures { λ _. ⌜ now (session .exit) ≡ recordOf (a .session) ⌝ }
     ensures { λ _. ⌜ now (reply .exit) ≡ a .reply ⌝ }
 {
@@ -27,7 +21,7 @@ fn give(a: Answer, session: &mut [u8; 12], reply: &mut [u8; 16]) -> u32
     let number = a.number;
     *session = record::encode(next);
     *reply = bytes;
-    wide(number) + 256 * wide(card::sign_code(sign))
+    card::packed(number, sign)
 }
 
 // One frame. The session's record is replaced by the next one, and the reply is filled.
@@ -38,7 +32,7 @@ pub extern "C" fn tirlwheel_frame(
     frame: &[u8],
     reply: &mut [u8; 16],
 ) -> u32
-    ensures { λ r. ⌜ r ≡ packed (frameAnswer (now (image .entry)) (now (session .entry)) (now (frame .entry))) ⌝ }
+    ensures { λ r. ⌜ r ≡ packedOf (frameAnswer (now (image .entry)) (now (session .entry)) (now (frame .entry)) .number) (frameAnswer (now (image .entry)) (now (session .entry)) (now (frame .entry)) .sign) ⌝ }
     ensures { λ _. ⌜ now (session .exit) ≡ recordOf (frameAnswer (now (image .entry)) (now (session .entry)) (now (frame .entry)) .session) ⌝ }
     ensures { λ _. ⌜ now (reply .exit) ≡ frameAnswer (now (image .entry)) (now (session .entry)) (now (frame .entry)) .reply ⌝ }
     ensures { λ _. ⌜ now (image .exit) ≡ frameImage (now (image .entry)) (now (session .entry)) (now (frame .entry)) ⌝ }
@@ -53,7 +47,7 @@ pub extern "C" fn tirlwheel_frame(
 // The field reset, for any twelve bytes.
 #[no_mangle]
 pub extern "C" fn tirlwheel_field_reset(session: &mut [u8; 12], reply: &mut [u8; 16]) -> u32
-    ensures { λ r. ⌜ r ≡ packed resetOf ⌝ }
+    ensures { λ r. ⌜ r ≡ packedOf (resetOf .number) (resetOf .sign) ⌝ }
     ensures { λ _. ⌜ now (session .exit) ≡ recordOf (resetOf .session) ⌝ }
     ensures { λ _. ⌜ now (reply .exit) ≡ resetOf .reply ⌝ }
 {

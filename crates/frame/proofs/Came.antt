@@ -12,7 +12,7 @@ use Rattle.access.specs.declared.rights.Letter.{Letter}
 use Rattle.session.specs.declared.Kind.{Kind}
 use Rattle.session.specs.declared.Stage.{Stage}
 use Rattle.session.specs.declared.Stage.the-variants.{Idle, WriteWaits, ValueWaits}
-use Rattle.frame.specs.Command.{eightOf, twoOf, firstOf, commandOf}
+use Rattle.frame.specs.Command.{eightBytesOf, twoBytesOf, firstOf, commandOf}
 use Rattle.frame.specs.declared.Command.{Command}
 use Rattle.frame.specs.declared.Command.the-variants.{Unknown, Authenticate, Read, Write, Store, Begin, Apply, Transfer, Halt}
 
@@ -32,8 +32,8 @@ either : (frame : List ℕ) (w : Stage) (t : Bool) (x y : Command) → Came fram
 either frame w true x y p q = p
 either frame w false x y p q = q
 
-two : (frame : List ℕ) (code b : ℕ) → Came frame Idle (twoOf code b)
-unfolding twoOf
+two : (frame : List ℕ) (code b : ℕ) → Came frame Idle (twoBytesOf code b)
+unfolding twoBytesOf
 two frame code b =
     either frame Idle (eqb code 0x30) _ _ (reads _)
     (either frame Idle (eqb code 0xA0) _ _ (writes _)
@@ -43,8 +43,8 @@ two frame code b =
     (either frame Idle (eqb code 0xB0) _ _ (transfers _)
     (either frame Idle (eqb code 0x50) _ _ (either frame Idle (eqb b 0) _ _ halts unknown) unknown))))))
 
-eight : (frame : List ℕ) (code b : ℕ) → Came frame Idle (eightOf code b)
-unfolding eightOf
+eight : (frame : List ℕ) (code b : ℕ) → Came frame Idle (eightBytesOf code b)
+unfolding eightBytesOf
 eight frame code b =
     either frame Idle (eqb code 0x60) _ _ (authenticate _ _) (either frame Idle (eqb code 0x61) _ _ (authenticate _ _) unknown)
 

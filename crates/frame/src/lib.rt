@@ -1,6 +1,6 @@
 // What a frame asks for.
 ghost use mathlib.Core.Path.{_≡_};
-ghost use Rattle.frame.specs.Command.{byteIn, eightOf, twoOf, firstOf, commandOf};
+ghost use Rattle.frame.specs.Command.{byteIn, eightBytesOf, twoBytesOf, firstOf, commandOf};
 use access::Letter;
 use layout::Block;
 use session::Kind;
@@ -31,7 +31,7 @@ pub fn byte(frame: &[u8], i: usize) -> u8
 }
 
 fn eight(code: u8, block: u8) -> Command
-    ensures { λ r. ⌜ r ≡ eightOf code block ⌝ }
+    ensures { λ r. ⌜ r ≡ eightBytesOf code block ⌝ }
 {
     let b = Block(block);
     match code {
@@ -42,7 +42,7 @@ fn eight(code: u8, block: u8) -> Command
 }
 
 fn two(code: u8, block: u8) -> Command
-    ensures { λ r. ⌜ r ≡ twoOf code block ⌝ }
+    ensures { λ r. ⌜ r ≡ twoBytesOf code block ⌝ }
 {
     let b = Block(block);
     match code {

@@ -25,9 +25,8 @@ use Rattle.session.specs.declared.Auth.{Auth}
 use Rattle.session.specs.declared.Auth.the-variants.{Nobody, As}
 use Rattle.layout.specs.declared.Sector.{Sector}
 use Rattle.judge.specs.First.{check, first}
-use Rattle.judge.specs.Checks.{accessOf, noBlock, otherSector, isBlocked, isForbidden, rightOf, hasRight, noRight, memoryChecks}
-use Rattle.judge.specs.Grant.{writableBy, trailerGrant, grantOf}
-use Rattle.judge.specs.Code.{granted, verdictOf, guardedOf, letterOf}
+use Rattle.judge.specs.Checks.{accessOf, noBlock, otherSector, isBlocked, isForbidden, rightOf, hasRight, writableBy, noRight, memoryChecks}
+use Rattle.judge.specs.Code.{trailerGrant, grantOf, granted, verdictOf, guardedOf, letterOf}
 use Rattle.judge.specs.declared.checks.Verdict.{Verdict}
 use Rattle.judge.specs.declared.checks.Verdict.the-variants.{Whole}
 

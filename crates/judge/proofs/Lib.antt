@@ -1,2 +1,3 @@
 pub mod Guard
 pub mod Lists
+pub mod Shortcut

@@ -27,9 +27,7 @@ use Rattle.judge.specs.declared.checks.Verdict.{Verdict}
 use Rattle.judge.specs.declared.checks.Verdict.the-variants.{Refuse, Whole, InParts}
 use Rattle.judge.specs.First.{Check, check, Outcome, passes, refuses, first, ruled}
 use Rattle.judge.specs.Checks.{accessOf, noValue, isForbidden, kindColumn, memoryChecks, checksOf}
-use Rattle.judge.specs.Grant.{trailerGrant, grantOf}
-use Rattle.judge.specs.Code.{granted, verdictOf, columnOf, blockOf, isMemory}
-use Rattle.judge.specs.Judge.{shownAs, storedAs, doneOf, commandedOf}
+use Rattle.judge.specs.Code.{trailerGrant, grantOf, granted, verdictOf, columnOf, blockOf, isMemory, doneWith, codedOf}
 
 -- the first part refuses
 pub stop : (xs ys : List Check) (n : ℕ) → first xs ≡ refuses n → first (xs ++ ys) ≡ refuses n
@@ -80,31 +78,6 @@ two-parts image s (Begin b k) frame h = begin-parts image s b k frame
 two-parts image s (Apply b k) frame h = apply-parts image s b k frame
 two-parts image s (Transfer b) frame h = refl
 two-parts image s Halt frame h = absurd (false≢true h)
-
--- what a command does, with the grant that the code was given
-abbrev pub doneWith : Verdict → List ℕ → Session → Command → List ℕ → Act
-doneWith v image s Unknown frame = doneOf image s Unknown frame
-doneWith v image s (Authenticate b l) frame = doneOf image s (Authenticate b l) frame
-doneWith v image s (Read b) frame = shownAs b v
-doneWith v image s (Write b) frame = doneOf image s (Write b) frame
-doneWith v image s (Store b) frame = storedAs b v
-doneWith v image s (Begin b k) frame = doneOf image s (Begin b k) frame
-doneWith v image s (Apply b k) frame = doneOf image s (Apply b k) frame
-doneWith v image s (Transfer b) frame = doneOf image s (Transfer b) frame
-doneWith v image s Halt frame = doneOf image s Halt frame
-
-done-with : (v : Verdict) (image : List ℕ) (s : Session) (c : Command) (frame : List ℕ)
-    → grantOf (accessOf image (blockOf c)) (s .auth) (columnOf c) (blockOf c) ≡ v → doneWith v image s c frame ≡ doneOf image s c frame
-unfolding doneOf columnOf blockOf
-done-with v image s Unknown frame e = refl
-done-with v image s (Authenticate b l) frame e = refl
-done-with v image s (Read b) frame e = ap (shownAs b) (sym e)
-done-with v image s (Write b) frame e = refl
-done-with v image s (Store b) frame e = ap (storedAs b) (sym e)
-done-with v image s (Begin b k) frame e = refl
-done-with v image s (Apply b k) frame e = refl
-done-with v image s (Transfer b) frame e = refl
-done-with v image s Halt frame e = refl
 
 -- a grant is no refusal
 abbrev isGrant : Verdict → Bool
@@ -190,21 +163,21 @@ module _ (image : List ℕ) (s : Session) (c : Command) (frame : List ℕ) (o : 
   unfolding verdictOf
   judged = rw (asked, about) at (sym got)
 
-  pub stopped : (n : ℕ) → v ≡ Refuse n → Refused n ≡ commandedOf image s c frame
-  unfolding commandedOf ruled
+  pub stopped : (n : ℕ) → v ≡ Refuse n → Refused n ≡ codedOf image s c frame
+  unfolding codedOf ruled
   stopped n e =
       let f : first shared ≡ refuses n = told-stop (first shared) _ n (grants (accessOf image (blockOf c)) (s .auth) (columnOf c) (blockOf c)) (judged ∙ e) in
       rw (two-parts image s c frame memory, stop shared (furtherOf image s c) n f)
 
   pub passed : (w : Verdict) → v ≡ w → isGrant w ≡ true → (c′ : Command) → c ≡ c′
-      → ruled (first (furtherOf image s c′)) (doneWith w image s c′ frame) ≡ commandedOf image s c frame
-  unfolding commandedOf
+      → ruled (first (furtherOf image s c′)) (doneWith w image s c′ frame) ≡ codedOf image s c frame
+  unfolding codedOf
   passed w e h c′ q =
       let f = told-pass (first shared) _ w h (judged ∙ e) in
-      rw (← q) (rw (two-parts image s c frame memory, pass shared (furtherOf image s c) (f .0), done-with w image s c frame (f .1)))
+      rw (← q) (rw (two-parts image s c frame memory, pass shared (furtherOf image s c) (f .0), f .1))
 
   -- only a Read and a Write come to parts of a trailer: 6 refuses the others
-  pub no-parts : (m : ℕ) → v ≡ InParts m → OneOf no-trailer (tagOf the-type c) → (act : Act) → act ≡ commandedOf image s c frame
+  pub no-parts : (m : ℕ) → v ≡ InParts m → OneOf no-trailer (tagOf the-type c) → (act : Act) → act ≡ codedOf image s c frame
   unfolding isMemory columnOf blockOf kindColumn isForbidden
   no-parts m e k act = absurd (parts-of c memory k (rw (asked, about) at (sym got ∙ e)))
     where
@@ -225,7 +198,7 @@ module _ (image : List ℕ) (s : Session) (c : Command) (frame : List ℕ) (o : 
       parts-of Halt h k f = false≢true h
 
   -- and what is no memory command does not come here
-  pub no-more : OneOf no-memory (tagOf the-type c) → (act : Act) → act ≡ commandedOf image s c frame
+  pub no-more : OneOf no-memory (tagOf the-type c) → (act : Act) → act ≡ codedOf image s c frame
   unfolding isMemory
   no-more k act = absurd (memory-of c memory k)
     where

@@ -96,6 +96,11 @@ unfoldable pub hasRight : Auth → Operation → Bool → ℕ → ℕ → Bool
 hasRight Nobody o trailer n m = false
 hasRight (As s l) o trailer n m = rightOf l o trailer n m
 
+-- the parts of a trailer with the bits m that a session may write
+unfoldable pub writableBy : Auth → ℕ → Parts
+writableBy Nobody m = record { a = false; bits = false; b = false }
+writableBy (As s l) m = writableOf l m
+
 -- 7: the rights do not allow it
 unfoldable pub noRight : AccessBytes → Auth → Operation → Block → Bool
 noRight x auth o b = not (hasRight auth o (isTrailer b) (groupBits x (groupOf b)) (groupBits x Trailer))

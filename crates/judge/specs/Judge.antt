@@ -1,14 +1,16 @@
 -- The judgement of a frame: the refusal, or what the frame does.
 use Prim.Native.Nat.{ℕ}
+use mathlib.Core.Bool.{cond}
 use mathlib.Core.List.{List}
-use Rattle.layout.specs.Layout.{sectorOf}
+use Rattle.layout.specs.Layout.{sectorOf, isTrailer}
 use Rattle.layout.specs.declared.Block.{Block}
+use Rattle.layout.specs.declared.Group.the-variants.{Trailer}
 use Rattle.memory.specs.Memory.{contentOf}
 use Rattle.value.specs.Block.{bitsIn, addressIn}
 use Rattle.value.specs.Sum.{plusOf, minusOf}
 use Rattle.value.specs.declared.sum.Total.{Total}
 use Rattle.value.specs.declared.sum.Total.the-variants.{Fits, Negative, Outside}
-use Rattle.access.specs.declared.rights.Operation.the-variants as column
+use Rattle.access.specs.Bits.{groupBits}
 use Rattle.session.specs.declared.Kind.{Kind}
 use Rattle.session.specs.declared.Kind.the-variants.{Increment, Decrement, Restore}
 use Rattle.session.specs.declared.Register.{Register}
@@ -19,9 +21,6 @@ use Rattle.frame.specs.declared.Command.{Command}
 use Rattle.frame.specs.declared.Command.the-variants.{Unknown, Authenticate, Read, Write, Store, Begin, Apply, Transfer, Halt}
 use Rattle.judge.specs.First.{first, ruled}
 use Rattle.judge.specs.Checks.{accessOf, checksOf, frameChecks}
-use Rattle.judge.specs.Grant.{grantOf}
-use Rattle.judge.specs.declared.checks.Verdict.{Verdict}
-use Rattle.judge.specs.declared.checks.Verdict.the-variants.{Refuse, Whole, InParts}
 use Rattle.judge.specs.declared.Act.{Act}
 use Rattle.judge.specs.declared.Act.the-variants.{Refused, Authenticated, Shown, TrailerShown, WriteWaits, ValueWaits, Stored, TrailerStored, Loaded, Moved, Halted}
 
@@ -47,24 +46,24 @@ unfoldable pub moveOf : Register → Block → Act
 moveOf Empty b = Refused 9
 moveOf (Full v a) b = Moved b v a
 
--- a Read shows and a Write stores what is granted of the block
-unfoldable pub shownAs : Block → Verdict → Act
-shownAs b (Refuse n) = Refused n
-shownAs b Whole = Shown b
-shownAs b (InParts m) = TrailerShown b m
+-- the bits of the trailer of a block's sector
+abbrev pub trailerBits : List ℕ → Block → ℕ
+trailerBits image b = groupBits (accessOf image b) Trailer
 
-unfoldable pub storedAs : Block → Verdict → Act
-storedAs b (Refuse n) = Refused n
-storedAs b Whole = Stored b
-storedAs b (InParts m) = TrailerStored b m
+-- a Read shows and a Write stores a data block as it is, and a trailer in its parts, as its bits say
+unfoldable pub shownOf : List ℕ → Block → Act
+shownOf image b = cond (isTrailer b) (TrailerShown b (trailerBits image b)) (Shown b)
+
+unfoldable pub storedOf : List ℕ → Block → Act
+storedOf image b = cond (isTrailer b) (TrailerStored b (trailerBits image b)) (Stored b)
 
 -- what a command does once its checks have passed; 1 has refused an unknown one
 unfoldable pub doneOf : List ℕ → Session → Command → List ℕ → Act
 doneOf image s Unknown frame = Refused 1
 doneOf image s (Authenticate b l) frame = Authenticated (sectorOf b) l
-doneOf image s (Read b) frame = shownAs b (grantOf (accessOf image b) (s .auth) column.Read b)
+doneOf image s (Read b) frame = shownOf image b
 doneOf image s (Write b) frame = WriteWaits b
-doneOf image s (Store b) frame = storedAs b (grantOf (accessOf image b) (s .auth) column.Write b)
+doneOf image s (Store b) frame = storedOf image b
 doneOf image s (Begin b k) frame = ValueWaits b k
 doneOf image s (Apply b k) frame = appliedOf image k b frame
 doneOf image s (Transfer b) frame = moveOf (s .register) b

@@ -1,5 +1,4 @@
 pub mod First
 pub mod Checks
-pub mod Grant
 pub mod Judge
 pub mod Code

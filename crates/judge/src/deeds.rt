@@ -6,8 +6,8 @@ ghost use Rattle.layout.specs.Layout.{sectorOf};
 ghost use Rattle.frame.specs.Command.{commandOf};
 ghost use Rattle.judge.specs.First.{check, first, ruled};
 ghost use Rattle.judge.specs.Checks.{authenticateChecks, kindColumn};
-ghost use Rattle.judge.specs.Code.{columnOf, blockOf, isMemory};
-ghost use Rattle.judge.specs.Judge.{moveOf, commandedOf};
+ghost use Rattle.judge.specs.Code.{columnOf, blockOf, isMemory, codedOf};
+ghost use Rattle.judge.specs.Judge.{moveOf};
 ghost use Rattle.session.specs.Session.{isEmpty};
 use crate::Act;
 use crate::checks;
@@ -99,7 +99,7 @@ fn transfer(register: Register, b: Block) -> Act
 // A memory command that the frame asks for: its checks, then what it does.
 pub(crate) fn perform(image: &[u8], s: Session, c: Command, frame: &[u8]) -> Act
     requires { ⌜ (isMemory c ≡ true) × (c ≡ commandOf (s .stage) (now frame)) ⌝ }
-    ensures { λ r. ⌜ r ≡ commandedOf (now (image .entry)) s c (now (frame .entry)) ⌝ }
+    ensures { λ r. ⌜ r ≡ codedOf (now (image .entry)) s c (now (frame .entry)) ⌝ }
 {
     let auth = s.auth;
     let register = s.register;

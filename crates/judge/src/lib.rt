@@ -1,6 +1,7 @@
 // The judgement of a frame: every check in its order, none after the one that refuses, and what the frame then does.
 ghost use mathlib.Core.Path.{_≡_};
 ghost use Rattle.judge.specs.Judge.{judgeOf};
+ghost use Rattle.judge.specs.Code.{shortened};
 
 mod checks;
 mod deeds;
@@ -15,7 +16,7 @@ use session::Kind;
 use session::Session;
 
 // What a frame does: it is refused with a number, or accepted with what its effects need.
-// TrailerShown and TrailerStored carry the trailer's bits, which say which parts. A case that has a block has it first.
+// TrailerShown and TrailerStored carry the trailer's bits, which say which parts. A case that has a block has it first. A Write that may change every part of a trailer is given as Stored.
 pub enum Act {
     Refused(u8),
     Authenticated(Sector, Letter),
@@ -31,7 +32,7 @@ pub enum Act {
 }
 
 pub fn judge(image: &[u8], s: Session, frame: &[u8]) -> Act
-    ensures { λ r. ⌜ r ≡ judgeOf (now (image .entry)) s (now (frame .entry)) ⌝ }
+    ensures { λ r. ⌜ r ≡ shortened (s .auth) (judgeOf (now (image .entry)) s (now (frame .entry))) ⌝ }
 {
     let stage = s.stage;
     if checks::is_no_card(image) {

@@ -8,7 +8,7 @@ use native.Mathlib.Omega.{arith}
 use lib.Dec.{eqb}
 use lib.ListN.{length}
 use borrow.Author.Tests.{eqb-true, eq-eqb, ltb-true}
-use Rattle.layout.specs.Layout.{sectorsOf, blocksIn, blocksOf, hasSector, hasBlock, sectorOf, trailerOf, isTrailer}
+use Rattle.layout.specs.Layout.{sectorsOf, blocksIn, blocksOf, hasSector, hasBlock, sectorOf, trailerOf, isTrailer, blockAt, sectorAt}
 use Rattle.layout.specs.declared.Block.{Block}
 use Rattle.layout.specs.declared.Sector.{Sector}
 use Rattle.layout.proofs.Laws.{trailer-in-sector, sector-exists, has-sector, at-most}
@@ -24,14 +24,13 @@ use Rattle.session.specs.Session.{freshOf, fits, coherentOf, inSector}
 use Rattle.session.specs.declared.Auth.{Auth}
 use Rattle.session.specs.declared.Auth.the-variants.{Nobody, As}
 use Rattle.session.specs.declared.Session.{Session}
-use Rattle.frame.specs.Command.{blockAt}
-use Rattle.judge.specs.Checks.{accessOf, isForbidden}
-use Rattle.judge.specs.Grant.{writableBy}
+use Rattle.judge.specs.Checks.{accessOf, isForbidden, writableBy}
+use Rattle.judge.specs.Judge.{trailerBits}
 use Rattle.judge.specs.declared.Act.{Act}
 use Rattle.judge.specs.declared.Act.the-variants.{Refused, Authenticated, Shown, TrailerShown, WriteWaits, ValueWaits, Stored, TrailerStored, Loaded, Moved, Halted}
-use Rattle.card.specs.Trailer.{zeros, shownTrailer}
+use Rattle.card.specs.Trailer.{zeros, shownTrailer, mixedOf}
 use Rattle.card.specs.Effects.{numberOf, sessionOf, replyOf, imageOf}
-use Rattle.laws.specs.Accepted.{Allowed, trailerBits, Accepted}
+use Rattle.laws.specs.Accepted.{Allowed, Accepted}
 use Rattle.laws.proofs.Lengths.{sixteen-length, sixteen-same, mixed-length}
 
 -- the act stores into the block: a Write's second frame or a Transfer
@@ -47,9 +46,6 @@ Touches (TrailerStored b m) j = b .0 ≡ j .0
 Touches (Loaded v a) j = ⊥
 Touches (Moved b v a) j = b .0 ≡ j .0
 Touches Halted j = ⊥
-
-abbrev pub sectorAt : ℕ → Sector
-sectorAt n = record { 0 = n }
 
 pub block-eq : (b c : Block) → b .0 ≡ c .0 → b ≡ c
 block-eq b c e = ap blockAt e
@@ -172,10 +168,16 @@ module _ (image : List ℕ) (s : Session) (frame : List ℕ) where
   unfolding replyOf
   read-trailer b m h = (h .2, rw (h .3))
 
-  -- an accepted Write that may write the whole block leaves the sixteen bytes of its frame in it
+  -- an accepted Write leaves the sixteen bytes of its frame in a data block; of a trailer it changes the parts that this session may write
   pub write-stored : (b : Block) → Accepted image s frame (Stored b) → contentOf (imageOf image (s .auth) (Stored b) frame) b ≡ frame
   unfolding imageOf
   write-stored b h = rw (sixteen-same frame (h .2)) (store-back image b frame (h .2) (h .1 .has))
+
+  pub write-trailer : (b : Block) (m : ℕ) → Accepted image s frame (TrailerStored b m)
+      → contentOf (imageOf image (s .auth) (TrailerStored b m) frame) b ≡ mixedOf (writableBy (s .auth) (trailerBits image b)) (contentOf image b) frame
+  unfolding imageOf
+  write-trailer b m h =
+      rw (h .4, sixteen-same frame (h .2)) (store-back image b _ (rw (← (sixteen-same frame (h .2))) (mixed-length (writableBy (s .auth) (trailerBits image b)) image b frame)) (h .1 .has))
 
   -- the session is coherent afterwards
   pub stays-coherent : (act : Act) → Accepted image s frame act → coherentOf (length (imageOf image (s .auth) act frame)) (sessionOf s act) ≡ true

@@ -14,7 +14,6 @@ use Rattle.memory.specs.Memory.{contentOf}
 use Rattle.access.specs.declared.rights.Letter.{Letter}
 use Rattle.access.specs.declared.rights.Operation.{Operation}
 use Rattle.access.specs.declared.rights.Operation.the-variants as column
-use Rattle.access.specs.declared.rights.Parts.{Parts}
 use Rattle.value.specs.Block.{bitsIn, addressIn}
 use Rattle.value.specs.declared.sum.Total.{Total}
 use Rattle.value.specs.declared.sum.Total.the-variants.{Fits, Negative, Outside}
@@ -32,11 +31,10 @@ use Rattle.frame.specs.declared.Command.the-variants.{Read, Write, Store, Begin
 use Rattle.frame.proofs.Came.{Came, unknown, authenticate, reads, writes, stores, begins, applies, transfers, halts, came}
 use Rattle.judge.specs.First.{Check, check, passes, first, ruled}
 use Rattle.judge.specs.Checks.{accessOf, noBlock, otherSector, isBlocked, wrongKey, noValue, kindColumn, memoryChecks, checksOf, authenticateChecks, frameChecks}
-use Rattle.judge.specs.Grant.{writableBy, trailerGrant, grantOf}
-use Rattle.judge.specs.Judge.{totalFor, loadOf, appliedOf, moveOf, shownAs, storedAs, doneOf, commandedOf, judgeOf}
+use Rattle.judge.specs.Judge.{totalFor, loadOf, appliedOf, moveOf, trailerBits, shownOf, storedOf, doneOf, commandedOf, judgeOf}
 use Rattle.judge.specs.declared.Act.{Act}
-use Rattle.judge.specs.declared.checks.Verdict.the-variants.{Whole, InParts}
-use Rattle.laws.specs.Accepted.{Allowed, Countable, Admitted, trailerBits, Accepted}
+use Rattle.judge.specs.declared.Act.the-variants.{Shown, TrailerShown, Stored, TrailerStored}
+use Rattle.laws.specs.Accepted.{Allowed, Countable, Admitted, Accepted}
 
 -- a list that passes: its first check does not apply, and the rest passes
 next : (n : ℕ) (t : Bool) (cs : List Check) → first (check n t ∷ cs) ≡ passes → (t ≡ false) × (first cs ≡ passes)
@@ -88,28 +86,22 @@ module _ (image : List ℕ) (s : Session) (frame : List ℕ) where
       record { allowed = allowed image (s .auth) (kindColumn k) b (p .0); value = not-false _ (next _ _ _ (p .1) .0) }
 
   -- a Read is shown its data block, or a trailer by the trailer's bits
-  shown : (b : Block) → s .stage ≡ Idle → Allowed image (s .auth) column.Read b → Accepted image s frame (shownAs b (grantOf (accessOf image b) (s .auth) column.Read b))
-  unfolding shownAs grantOf trailerGrant
+  shown : (b : Block) → s .stage ≡ Idle → Allowed image (s .auth) column.Read b → Accepted image s frame (shownOf image b)
+  unfolding shownOf
   shown b w a = go (isTrailer b) refl
     where
-      go : (t : Bool) → isTrailer b ≡ t
-          → Accepted image s frame (shownAs b (cond t (trailerGrant column.Read (writableBy (s .auth) (trailerBits image b)) (trailerBits image b)) Whole))
+      go : (t : Bool) → isTrailer b ≡ t → Accepted image s frame (cond t (TrailerShown b (trailerBits image b)) (Shown b))
       go true e = (w, a, e, refl)
       go false e = (w, a, e)
 
-  -- a Write is stored whole, or in a trailer's parts
-  stored : (b : Block) → s .stage ≡ WriteWaits b → Allowed image (s .auth) column.Write b → length frame ≡ 16
-      → Accepted image s frame (storedAs b (grantOf (accessOf image b) (s .auth) column.Write b))
-  unfolding storedAs grantOf trailerGrant
-  stored b w a l = go (writableBy (s .auth) (trailerBits image b)) (isTrailer b) refl
+  -- a Write is stored so too
+  stored : (b : Block) → s .stage ≡ WriteWaits b → Allowed image (s .auth) column.Write b → length frame ≡ 16 → Accepted image s frame (storedOf image b)
+  unfolding storedOf
+  stored b w a l = go (isTrailer b) refl
     where
-      part : (t : Bool) → isTrailer b ≡ true → Accepted image s frame (storedAs b (cond t Whole (InParts (trailerBits image b))))
-      part true e = (w, a, l)
-      part false e = (w, a, l, e, refl)
-
-      go : (p : Parts) (t : Bool) → isTrailer b ≡ t → Accepted image s frame (storedAs b (cond t (trailerGrant column.Write p (trailerBits image b)) Whole))
-      go p true e = part (p .a && p .bits && p .b) e
-      go p false e = (w, a, l)
+      go : (t : Bool) → isTrailer b ≡ t → Accepted image s frame (cond t (TrailerStored b (trailerBits image b)) (Stored b))
+      go true e = (w, a, l, e, refl)
+      go false e = (w, a, l, e)
 
   load : (k : Kind) (b : Block) (t : Total) → s .stage ≡ ValueWaits k b → Countable image (s .auth) k b
       → totalFor k (bitsIn (contentOf image b)) (bitsIn frame) ≡ t → Accepted image s frame (loadOf t (addressIn (contentOf image b)))

@@ -9,8 +9,7 @@ use Rattle.layout.specs.Layout.{hasBlock, sectorOf, isTrailer}
 use Rattle.layout.specs.declared.Block.{Block}
 use Rattle.layout.specs.declared.Sector.{Sector}
 use Rattle.memory.specs.Memory.{contentOf}
-use Rattle.layout.specs.declared.Group.the-variants.{Trailer}
-use Rattle.access.specs.Bits.{wellFormed, groupBits}
+use Rattle.access.specs.Bits.{wellFormed}
 use Rattle.access.specs.declared.rights.Letter.{Letter}
 use Rattle.access.specs.declared.rights.Operation.{Operation}
 use Rattle.access.specs.declared.rights.Operation.the-variants as column
@@ -23,7 +22,7 @@ use Rattle.session.specs.declared.Stage.the-variants as stage
 use Rattle.session.specs.declared.Register.the-variants.{Full}
 use Rattle.session.specs.declared.Session.{Session}
 use Rattle.judge.specs.Checks.{guardOf, accessOf, isKey, isForbidden, noRight, kindColumn}
-use Rattle.judge.specs.Judge.{totalFor}
+use Rattle.judge.specs.Judge.{totalFor, trailerBits}
 use Rattle.judge.specs.declared.Act.{Act}
 use Rattle.judge.specs.declared.Act.the-variants.{Refused, Authenticated, Shown, TrailerShown, WriteWaits, ValueWaits, Stored, TrailerStored, Loaded, Moved, Halted}
 
@@ -48,10 +47,6 @@ pub record Admitted (image : List ℕ) (t : Sector) (l : Letter) (frame : List �
   pub opened : wellFormed (accessOf image block) ≡ true
   pub key : isKey (guardOf image block) l frame ≡ true
 
--- the bits of the trailer of a block's sector
-abbrev pub trailerBits : List ℕ → Block → ℕ
-trailerBits image b = groupBits (accessOf image b) Trailer
-
 -- the second frame of a value operation passed its checks, 13 and 10, and this is what it loaded
 pub record Load (image : List ℕ) (s : Session) (frame : List ℕ) (v a : ℕ) : Type 0 where
   pub kind : Kind
@@ -69,7 +64,7 @@ Accepted image s frame (Shown b) = (s .stage ≡ stage.Idle) × Allowed image (s
 Accepted image s frame (TrailerShown b m) = (s .stage ≡ stage.Idle) × Allowed image (s .auth) column.Read b × (isTrailer b ≡ true) × (m ≡ trailerBits image b)
 Accepted image s frame (WriteWaits b) = (s .stage ≡ stage.Idle) × Allowed image (s .auth) column.Write b
 Accepted image s frame (ValueWaits b k) = (s .stage ≡ stage.Idle) × Countable image (s .auth) k b
-Accepted image s frame (Stored b) = (s .stage ≡ stage.WriteWaits b) × Allowed image (s .auth) column.Write b × (length frame ≡ 16)
+Accepted image s frame (Stored b) = (s .stage ≡ stage.WriteWaits b) × Allowed image (s .auth) column.Write b × (length frame ≡ 16) × (isTrailer b ≡ false)
 Accepted image s frame (TrailerStored b m) =
     (s .stage ≡ stage.WriteWaits b) × Allowed image (s .auth) column.Write b × (length frame ≡ 16) × (isTrailer b ≡ true) × (m ≡ trailerBits image b)
 Accepted image s frame (Loaded v a) = Load image s frame v a

@@ -7,6 +7,13 @@ use Rattle.layout.specs.declared.Sector.{Sector}
 use Rattle.layout.specs.declared.Group.{Group}
 use Rattle.layout.specs.declared.Group.the-variants.{First, Second, Third, Trailer}
 
+-- a block address, and a sector number, by its number
+abbrev pub blockAt : ℕ → Block
+blockAt n = record { 0 = n }
+
+abbrev pub sectorAt : ℕ → Sector
+sectorAt n = record { 0 = n }
+
 -- the sectors of an image by its bytes: a 1K card has 16, a 4K card 40, and any other length is no card
 unfoldable pub sectorsOf : ℕ → ℕ
 sectorsOf bytes = cond (eqb bytes 1024) 16 (cond (eqb bytes 4096) 40 0)

@@ -2,8 +2,7 @@
 use mathlib.Core.Bool.{cond}
 use mathlib.Core.List.{List, [], _∷_, _++_}
 use Prim.Native.Nat.{ℕ, zero, suc, _+_}
-use Rattle.layout.specs.Layout.{blocksOf}
-use Rattle.layout.specs.declared.Block.{Block}
+use Rattle.layout.specs.Layout.{blockAt, blocksOf}
 use Rattle.memory.specs.Memory.{contentOf}
 use Rattle.value.specs.Block.{same}
 use Rattle.card.specs.declared.Sign.{Sign}
@@ -11,25 +10,24 @@ use Rattle.card.specs.declared.Sign.the-variants.{Ack, Nak, Data, Nothing}
 use Rattle.card.specs.declared.Answer.{Answer}
 use Rattle.script.specs.Script.{Reading, lawful, refused, imageSize, imagePart, eventCount, readingOf}
 use Rattle.runs.specs.Run.{begin, Sent, runOf, answersOf}
-use Rattle.play.specs.Text.{space, newline, decimalOf, hexOf}
+use Rattle.play.specs.Text.{space, newline, scriptWord, cardWord, eventsWord, blockWord, letterA, letterN, dash, decimalOf, hexOf}
 use Rattle.play.specs.Run.{eventsIn}
 
 -- `script`, a space and the number of the refusal
 unfoldable pub refusalLine : ℕ → List ℕ
-refusalLine n = 115 ∷ 99 ∷ 114 ∷ 105 ∷ 112 ∷ 116 ∷ space ∷ (decimalOf n ++ (newline ∷ []))
+refusalLine n = scriptWord ++ (space ∷ (decimalOf n ++ (newline ∷ [])))
 
 -- `card`, the image's size, `events` and how many they are
 unfoldable pub headerLine : ℕ → ℕ → List ℕ
 headerLine size count =
-    99 ∷ 97 ∷ 114 ∷ 100 ∷ space
-    ∷ (decimalOf size ++ (space ∷ 101 ∷ 118 ∷ 101 ∷ 110 ∷ 116 ∷ 115 ∷ space ∷ (decimalOf count ++ (newline ∷ []))))
+    cardWord ++ (space ∷ (decimalOf size ++ (space ∷ (eventsWord ++ (space ∷ (decimalOf count ++ (newline ∷ [])))))))
 
 -- what an answer shows: A, N, - or the reply
 unfoldable pub markOf : Sign → List ℕ → List ℕ
-markOf Ack reply = 65 ∷ []
-markOf Nak reply = 78 ∷ []
+markOf Ack reply = letterA ∷ []
+markOf Nak reply = letterN ∷ []
 markOf Data reply = hexOf reply
-markOf Nothing reply = 45 ∷ []
+markOf Nothing reply = dash ∷ []
 
 -- an event's number, its result and what it shows
 unfoldable pub eventLine : ℕ → Answer → List ℕ
@@ -41,11 +39,7 @@ eventLines i (a ∷ rest) = eventLine i a ++ eventLines (i + 1) rest
 
 -- `block`, its address and its bytes
 unfoldable pub blockLine : ℕ → List ℕ → List ℕ
-blockLine b bytes =
-    98 ∷ 108 ∷ 111 ∷ 99 ∷ 107 ∷ space ∷ (decimalOf b ++ (space ∷ (hexOf bytes ++ (newline ∷ []))))
-
-abbrev pub blockAt : ℕ → Block
-blockAt n = record { 0 = n }
+blockLine b bytes = blockWord ++ (space ∷ (decimalOf b ++ (space ∷ (hexOf bytes ++ (newline ∷ [])))))
 
 -- a line for a block that differs between two images
 unfoldable pub changeLine : List ℕ → List ℕ → ℕ → List ℕ

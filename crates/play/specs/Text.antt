@@ -22,6 +22,28 @@ space = 32
 abbrev pub newline : ℕ
 newline = 10
 
+-- the words and signs of the printout in ASCII: `script`, `card`, `events`, `block`; `A`, `N`, `-`
+abbrev pub scriptWord : List ℕ
+scriptWord = 115 ∷ 99 ∷ 114 ∷ 105 ∷ 112 ∷ 116 ∷ []
+
+abbrev pub cardWord : List ℕ
+cardWord = 99 ∷ 97 ∷ 114 ∷ 100 ∷ []
+
+abbrev pub eventsWord : List ℕ
+eventsWord = 101 ∷ 118 ∷ 101 ∷ 110 ∷ 116 ∷ 115 ∷ []
+
+abbrev pub blockWord : List ℕ
+blockWord = 98 ∷ 108 ∷ 111 ∷ 99 ∷ 107 ∷ []
+
+abbrev pub letterA : ℕ
+letterA = 65
+
+abbrev pub letterN : ℕ
+letterN = 78
+
+abbrev pub dash : ℕ
+dash = 45
+
 -- a decimal digit
 abbrev pub digit : ℕ → ℕ
 digit n = 48 + n % 10

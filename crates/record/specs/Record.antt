@@ -1,12 +1,12 @@
 -- The session as twelve bytes: who and sector, stage and block, full and address byte, two zeros, the value.
 use mathlib.Core.Bool.{Bool, _&&_, cond}
 use mathlib.Core.List.{List, _∷_}
-use Prim.Native.Nat.{ℕ, _+_, _*_}
+use Prim.Native.Nat.{ℕ}
 use lib.Dec.{eqb}
 use lib.ListN.{getD}
 use Rattle.access.specs.declared.rights.Letter.{Letter}
 use Rattle.access.specs.declared.rights.Letter.the-variants.{KeyA, KeyB}
-use Rattle.value.specs.Block.{fourOf, same}
+use Rattle.value.specs.Block.{wordOf, fourOf, same}
 use Rattle.session.specs.declared.Auth.{Auth}
 use Rattle.session.specs.declared.Auth.the-variants.{Nobody, As}
 use Rattle.session.specs.declared.Kind.{Kind}
@@ -102,7 +102,7 @@ isRegister full address value =
 
 -- the value in bytes 8 to 11, low byte first
 abbrev pub valueIn : List ℕ → ℕ
-valueIn bytes = getD bytes 8 0 + 256 * getD bytes 9 0 + 65536 * getD bytes 10 0 + 16777216 * getD bytes 11 0
+valueIn bytes = wordOf (getD bytes 8 0) (getD bytes 9 0) (getD bytes 10 0) (getD bytes 11 0)
 
 -- the session that twelve bytes name
 unfoldable pub namedBy : List ℕ → Session

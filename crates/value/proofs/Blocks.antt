@@ -1,14 +1,15 @@
 -- Value blocks there and back.
 -- Assumes nothing.
 use mathlib.Core.Path.{_≡_, refl, sym, _∙_, ap, ap₂}
-use mathlib.Core.Bool.{Bool, true, false, _&&_}
+use mathlib.Core.Bool.{Bool, true, false, _&&_, cond}
 use mathlib.Core.List.{List, [], _∷_}
-use Prim.Native.Nat.{ℕ, _+_, _*_, _/_, _%_, _<_}
+use Prim.Native.Nat.{ℕ, suc, _+_, _*_, _-_, _/_, _%_, _<_}
 use native.Mathlib.Omega.{arith}
-use lib.Dec.{eqb}
-use lib.IntN.{ℤ}
+use lib.Dec.{eqb, ltb}
+use lib.IntN.{ℤ, pos, negsuc}
 use lib.ListN.{length}
 use lib.Pow.{shr-shr}
+use mir.Val.{toZ, sel}
 use mir.ValLaws.{ofZ-toZ}
 use mir.Syntax.{w32}
 use borrow.Author.Tests.{eq-eqb, eqb-true}
@@ -20,9 +21,17 @@ use Rattle.value.specs.Block.{encodeOf, decodeOf, agreeing, bitsIn, addr
 use Rattle.value.specs.Sum.{totalOf}
 use Rattle.value.proofs.Sums.{total-back}
 
+-- 32 bits are read as the language reads a signed number
+pub signed-kit : (v : ℕ) → signed v ≡ toZ w32 v
+signed-kit v = go (ltb v 2147483648)
+  where
+    go : (t : Bool) → cond t (pos v) (negsuc (4294967296 - suc v)) ≡ sel t (pos v) (negsuc (4294967296 - suc v))
+    go true = refl
+    go false = refl
+
 -- 32 bits, read as a whole number, are its bits
 pub bits-signed : (v : ℕ) → v < 4294967296 → bits (signed v) ≡ v
-bits-signed v h = ofZ-toZ w32 v (record { fits = h })
+bits-signed v h = ap bits (signed-kit v) ∙ ofZ-toZ w32 v (record { fits = h })
 
 pub same-refl : (xs : List ℕ) → same xs xs ≡ true
 same-refl [] = refl

@@ -1,6 +1,6 @@
 -- `writable_by` goes by whether there is an authenticated sector.
 use mathlib.Core.Path.{_∙_}
-use Rattle.judge.specs.Grant.{writableBy}
+use Rattle.judge.specs.Checks.{writableBy}
 use borrow.Author.Needs.{needs}
 use Rattle.card.proofs.trailer.writable_by.Statement.{statement}
 use Rattle.card.proofs.trailer.writable_by.Tie as tie

@@ -6,8 +6,7 @@ use Rattle.access.specs.Rights.{muteOf, writableOf}
 use Rattle.access.specs.declared.rights.Operation.the-variants.{Write}
 use Rattle.judge.specs.First.{first, passes, refuses}
 use Rattle.judge.specs.Checks.{isForbidden, trailerRight, rightOf}
-use Rattle.judge.specs.Grant.{trailerGrant}
-use Rattle.judge.specs.Code.{granted}
+use Rattle.judge.specs.Code.{trailerGrant, granted}
 use Rattle.judge.specs.declared.checks.Verdict.{Verdict}
 use Rattle.judge.specs.declared.checks.Verdict.the-variants.{Refuse, InParts}
 use borrow.Author.Needs.{needs}

@@ -4,8 +4,7 @@ use mathlib.Core.Bool.{Bool, true, false, not, _&&_, _||_, cond, false≢true}
 use Prim.Native.Nat.{ℕ}
 use Rattle.judge.specs.First.{first, passes, refuses}
 use Rattle.judge.specs.Checks.{trailerRight}
-use Rattle.judge.specs.Grant.{trailerGrant}
-use Rattle.judge.specs.Code.{granted}
+use Rattle.judge.specs.Code.{trailerGrant, granted}
 use Rattle.judge.specs.declared.checks.Verdict.the-variants.{Whole, InParts}
 use Rattle.judge.proofs.checks.write_rule.Statement.{statement}
 use Rattle.judge.proofs.checks.write_rule.Tie as tie

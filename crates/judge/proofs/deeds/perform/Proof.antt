@@ -4,7 +4,8 @@ use native.Mathlib.Omega.{arith}
 use Rattle.frame.proofs.Came.{operand-length}
 use Rattle.frame.specs.declared.Command.the-variants.{Read, Write, Store, Begin, Apply, Transfer}
 use Rattle.judge.specs.First.{first, ruled}
-use Rattle.judge.specs.Judge.{shownAs, storedAs, doneOf}
+use Rattle.judge.specs.Judge.{doneOf}
+use Rattle.judge.specs.Code.{shownAs, storedAs}
 use Rattle.judge.specs.declared.checks.Verdict.the-variants.{Whole, InParts}
 use Rattle.judge.proofs.Lists.{stopped, passed, no-parts, no-more}
 use borrow.Author.Needs.{needs}
