@@ -1,7 +1,7 @@
 /* Tirlwheel: a MIFARE Classic card in software. Link with libedge.a, which `rt staticlib edge` builds (x86-64 Linux), for
  * tirlwheel_sealed_frame with libchip.a, which `rt staticlib chip` builds, and for tirlwheel_play with libprintout.a, which
  * `rt staticlib printout` builds. A board whose frames all have their checksum links libchip.a, and libedge.a as well if it
- * needs the field reset.
+ * needs the field reset. The desk's tools, tirlwheel_lookup, are libdesk.a, which `rt staticlib desk` builds.
  *
  * The libraries open nothing, allocate nothing and keep nothing between calls: image, session and reply are the caller's.
  * Each call's result is proved for every input. What no proof covers is the caller's part: each pointer is good for the length
@@ -85,6 +85,27 @@ uint32_t tirlwheel_field_reset(uint8_t session[12], uint8_t reply[16]);
 /* Plays a script (an image and its events, in the format that the README shows) and writes the printout from the start of the
  * buffer; the rest of the buffer stays as it was. Gives the printout's length. A script that is refused (20 to 24) prints one line. */
 size_t tirlwheel_play(const uint8_t *script, size_t script_len, uint8_t printout[65536]);
+
+/* Which sector is an application's, by the MIFARE Application Directory of NXP's AN10787. The image is read as it stands: no session
+ * is needed, and keys, rights and blocked sectors play no part. A result has four bytes:
+ *
+ *   byte 0  the number: 0 where the directory was read, else the first of these that applies
+ *             11  the image is not 1,024 or 4,096 bytes long
+ *             15  no directory that is known: bit 7 of the announcing byte (byte 9 of block 3) is 0, or its bits 1 and 0 are neither
+ *                 01, version 1, nor 10, version 2; or version 2 on an image of 1,024 bytes
+ *             16  a checksum of the announced version is wrong: byte 0 of block 1 and, for version 2, byte 0 of block 64; both must
+ *                 be right even where the number stands in the first part
+ *   byte 1  1 where a sector holds the number, else 0
+ *   byte 2  the lowest such sector, 1 to 15 or 17 to 39; 0 where there is none
+ *   byte 3  the entries that were looked at: up to and with the first match, or all of them, 15 or 38, where there is none;
+ *           0 for a refusal
+ *
+ * `application` is the number as the note prints it, the function cluster in its high byte: a card stores the low byte first. 0 is
+ * looked up like any other, and gives the lowest free sector. A number above FFFFh is held nowhere. */
+#define TIRLWHEEL_FOUND(result) ((result) >> 8 & 0xFFu)
+#define TIRLWHEEL_SECTOR(result) ((result) >> 16 & 0xFFu)
+#define TIRLWHEEL_COUNT(result) ((result) >> 24)
+uint32_t tirlwheel_lookup(const uint8_t *image, size_t image_len, uint32_t application);
 
 /* Which boundary this is: 3. A change that a caller would notice counts it up: 2 came with frames that have their checksum, 3 with the
  * refusal of an operand below zero (13). */

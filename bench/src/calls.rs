@@ -1,6 +1,7 @@
 //! The two cards under one set of calls, those of include/tirlwheel.h: the proved library, and the Rust card behind the same boundary.
 
 use crate::card::{self, Answer, SealedReply, Session, FRESH};
+use crate::directory;
 use crate::layout::{is_image, BlockBytes};
 use crate::player;
 use crate::record::{of_session, to_session, Record};
@@ -11,6 +12,7 @@ pub type FrameCall = unsafe extern "C" fn(*mut u8, usize, *mut Record, *const u8
 pub type SealedFrameCall = unsafe extern "C" fn(*mut u8, usize, *mut Record, *const u8, usize, *mut SealedReply) -> u32;
 pub type FieldResetCall = unsafe extern "C" fn(*mut Record, *mut BlockBytes) -> u32;
 pub type PlayCall = unsafe extern "C" fn(*const u8, usize, *mut [u8; PRINTOUT_BYTES]) -> usize;
+pub type LookupCall = unsafe extern "C" fn(*const u8, usize, u32) -> u32;
 
 extern "C" {
     fn tirlwheel_frame(image: *mut u8, image_len: usize, session: *mut Record, frame: *const u8, frame_len: usize, reply: *mut BlockBytes) -> u32;
@@ -24,6 +26,7 @@ extern "C" {
     ) -> u32;
     fn tirlwheel_field_reset(session: *mut Record, reply: *mut BlockBytes) -> u32;
     fn tirlwheel_play(script: *const u8, script_len: usize, printout: *mut [u8; PRINTOUT_BYTES]) -> usize;
+    fn tirlwheel_lookup(image: *const u8, image_len: usize, application: u32) -> u32;
 }
 
 #[derive(Clone, Copy)]
@@ -32,6 +35,7 @@ pub struct Card {
     pub sealed_frame_call: SealedFrameCall,
     pub field_reset_call: FieldResetCall,
     pub play_call: PlayCall,
+    pub lookup_call: LookupCall,
 }
 
 pub const LIBRARY: Card = Card {
@@ -39,9 +43,15 @@ pub const LIBRARY: Card = Card {
     sealed_frame_call: tirlwheel_sealed_frame,
     field_reset_call: tirlwheel_field_reset,
     play_call: tirlwheel_play,
+    lookup_call: tirlwheel_lookup,
 };
-pub const RUST: Card =
-    Card { frame_call: rust_frame, sealed_frame_call: rust_sealed_frame, field_reset_call: rust_field_reset, play_call: rust_play };
+pub const RUST: Card = Card {
+    frame_call: rust_frame,
+    sealed_frame_call: rust_sealed_frame,
+    field_reset_call: rust_field_reset,
+    play_call: rust_play,
+    lookup_call: rust_lookup,
+};
 
 impl Card {
     /// Number in the low byte of the result, sign in the next.
@@ -64,6 +74,12 @@ impl Card {
     pub fn play(&self, script: &[u8], printout: &mut [u8; PRINTOUT_BYTES]) -> usize {
         // SAFETY: true length, and distinct borrows do not overlap.
         unsafe { (self.play_call)(script.as_ptr(), script.len(), printout) }
+    }
+
+    /// Number, flag, sector and count, from the low byte on.
+    pub fn lookup(&self, image: &[u8], application: u32) -> u32 {
+        // SAFETY: true length.
+        unsafe { (self.lookup_call)(image.as_ptr(), image.len(), application) }
     }
 }
 
@@ -126,4 +142,9 @@ unsafe extern "C" fn rust_field_reset(record: *mut Record, reply: *mut BlockByte
 
 unsafe extern "C" fn rust_play(script: *const u8, script_len: usize, printout: *mut [u8; PRINTOUT_BYTES]) -> usize {
     player::play(std::slice::from_raw_parts(script, script_len), &mut *printout)
+}
+
+unsafe extern "C" fn rust_lookup(image: *const u8, image_len: usize, application: u32) -> u32 {
+    let found = directory::lookup(std::slice::from_raw_parts(image, image_len), application);
+    u32::from_le_bytes([found.number, found.sector.is_some() as u8, found.sector.unwrap_or(0), found.count])
 }

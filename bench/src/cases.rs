@@ -3,6 +3,7 @@
 use crate::calls::Card;
 use crate::card::{Operation, Session, Stage, FRESH, SEALED_BYTES};
 use crate::crc::seal_of;
+use crate::directory::{checksum, place_of, ANNOUNCING, FIRST, SECOND};
 use crate::layout::{blocks_of, bytes_of_mut, is_trailer, trailer_of, BLOCK_BYTES};
 use crate::reader::Sent;
 use crate::record::{of_session, Record};
@@ -187,4 +188,44 @@ pub fn all() -> Vec<Case> {
     let refusals = places.iter().flat_map(Place::refusals);
     let sealed = places.iter().flat_map(Place::sealed);
     rides.chain(commands).chain(refusals).chain(sealed).collect()
+}
+
+/// A number to look up in an image.
+pub struct Lookup {
+    pub name: &'static str,
+    pub image: Vec<u8>,
+    pub application: u32,
+}
+
+/// An image whose sectors s hold the numbers 4800h + s, with right checksums.
+fn announced(bytes: usize, announcing: u8) -> Vec<u8> {
+    let mut image = vec![0; bytes];
+    image[ANNOUNCING] = announcing;
+    for sector in (1..if bytes == 1024 { 16 } else { 40 }).filter(|sector| *sector != 16) {
+        image[place_of(sector)..place_of(sector) + 2].copy_from_slice(&[sector, 0x48]);
+    }
+    for part in [FIRST, SECOND].into_iter().filter(|part| part.end <= bytes) {
+        image[part.start] = checksum(&image[part.start + 1..part.end]);
+    }
+    image
+}
+
+/// First, last and none in both versions; and lookups that end with the checksum, over 31 bytes or over 31 and 47, and are refused by 16.
+pub fn lookups() -> Vec<Lookup> {
+    let (one, two) = (announced(1024, 0xC1), announced(4096, 0xC2));
+    let (mut wrong_one, mut wrong_two) = (one.clone(), two.clone());
+    wrong_one[FIRST.start] ^= 1;
+    wrong_two[SECOND.start] ^= 1;
+    [
+        ("lookup, version 1, first", &one, 0x4801),
+        ("lookup, version 1, last", &one, 0x480F),
+        ("lookup, version 1, none", &one, 0x9999),
+        ("lookup, version 2, first", &two, 0x4801),
+        ("lookup, version 2, last", &two, 0x4827),
+        ("lookup, version 2, none", &two, 0x9999),
+        ("lookup, 16 after 31 bytes", &wrong_one, 0x4801),
+        ("lookup, 16 after 31 and 47 bytes", &wrong_two, 0x4801),
+    ]
+    .map(|(name, image, application)| Lookup { name, image: image.clone(), application })
+    .into()
 }

@@ -6,10 +6,12 @@ mod cases;
 mod cover;
 mod crc;
 mod differ;
+mod directory;
 mod frames;
 mod images;
 mod instructions;
 mod layout;
+mod lookups;
 mod player;
 mod random;
 mod reader;
@@ -26,7 +28,7 @@ mod value;
 use calls::{LIBRARY, RUST};
 use std::process::ExitCode;
 
-const USAGE: &str = "usage: bench differ SEED COUNT | scripts SEED COUNT PLAYER | speed | stack";
+const USAGE: &str = "usage: bench differ SEED COUNT | scripts SEED COUNT PLAYER | lookups SEED COUNT | speed | stack";
 
 fn main() -> ExitCode {
     let words: Vec<String> = std::env::args().skip(1).collect();
@@ -34,6 +36,7 @@ fn main() -> ExitCode {
     let good = match words[..] {
         ["differ", seed, count] => differ::run(number(seed), number(count)),
         ["scripts", seed, count, player] => scripts::run(number(seed), number(count), player),
+        ["lookups", seed, count] => lookups::run(number(seed), number(count)),
         ["speed"] => {
             speed::print_table();
             true

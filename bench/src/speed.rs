@@ -2,7 +2,7 @@
 
 use crate::calls::{Card, LIBRARY, PRINTOUT_BYTES, RUST};
 use crate::card::SealedReply;
-use crate::cases::{self, Case};
+use crate::cases::{self, Case, Lookup};
 use crate::instructions;
 use crate::layout::BlockBytes;
 use crate::record::Record;
@@ -19,7 +19,8 @@ const NOISE: f64 = 0.5;
 const GOAL: f64 = 1.2;
 
 /// A card that does nothing: what the loop and the call cost by themselves.
-const NOTHING: Card = Card { frame_call: no_frame, sealed_frame_call: no_sealed_frame, field_reset_call: no_reset, play_call: no_play };
+const NOTHING: Card =
+    Card { frame_call: no_frame, sealed_frame_call: no_sealed_frame, field_reset_call: no_reset, play_call: no_play, lookup_call: no_lookup };
 
 unsafe extern "C" fn no_frame(_: *mut u8, _: usize, _: *mut Record, _: *const u8, _: usize, _: *mut BlockBytes) -> u32 {
     0
@@ -34,6 +35,10 @@ unsafe extern "C" fn no_reset(_: *mut Record, _: *mut BlockBytes) -> u32 {
 }
 
 unsafe extern "C" fn no_play(_: *const u8, _: usize, _: *mut [u8; PRINTOUT_BYTES]) -> usize {
+    0
+}
+
+unsafe extern "C" fn no_lookup(_: *const u8, _: usize, _: u32) -> u32 {
     0
 }
 
@@ -58,6 +63,13 @@ impl Work {
         Work { name, times: PLAYS_PER_ROUND, send: Box::new(send) }
     }
 
+    fn of_lookup(lookup: Lookup) -> Work {
+        let send = move |card: &Card| {
+            std::hint::black_box(card.lookup(&lookup.image, lookup.application));
+        };
+        Work { name: lookup.name.to_string(), times: CALLS_PER_ROUND, send: Box::new(send) }
+    }
+
     pub fn repeat(&mut self, card: &Card, times: u32) {
         for _ in 0..times {
             (self.send)(std::hint::black_box(card));
@@ -80,7 +92,8 @@ impl Work {
 pub fn works() -> Vec<Work> {
     let cases = cases::all().into_iter().map(Work::of_case);
     let scripts = cases::ride_scripts(RIDES).into_iter().map(|(name, script)| Work::of_script(name, script));
-    cases.chain(scripts).collect()
+    let lookups = cases::lookups().into_iter().map(Work::of_lookup);
+    cases.chain(scripts).chain(lookups).collect()
 }
 
 /// The shortest nanoseconds of the empty card, the library and the Rust card.
@@ -111,9 +124,9 @@ pub fn print_table() {
     for _ in 0..ROUNDS {
         works.iter_mut().zip(&mut times).for_each(|(work, least)| work.time_once(least));
     }
-    let mut dear = [Dear::new("bare frames"), Dear::new("frames with their checksum")];
+    let mut dear = [Dear::new("bare frames"), Dear::new("frames with their checksum"), Dear::new("lookups")];
     for ((work, times), counted) in works.iter().zip(times).zip(counted) {
-        let entry = usize::from(work.name.starts_with("sealed"));
+        let entry = usize::from(work.name.starts_with("sealed")) + 2 * usize::from(work.name.starts_with("lookup"));
         dear[entry].add(print_line(work, times, counted));
     }
     dear.iter().for_each(Dear::print);

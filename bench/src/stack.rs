@@ -2,7 +2,7 @@
 
 use crate::calls::{Card, LIBRARY, PRINTOUT_BYTES, RUST};
 use crate::card::SEALED_BYTES;
-use crate::cases::{self, Case};
+use crate::cases::{self, Case, Lookup};
 use crate::reader::Sent;
 use crate::speed::RIDES;
 use std::arch::asm;
@@ -77,6 +77,14 @@ fn of_play(stack: &mut Stack, card: &Card, script: &[u8]) -> usize {
     })
 }
 
+fn of_lookup(stack: &mut Stack, card: &Card, lookup: &Lookup) -> usize {
+    depth(stack, |stack| {
+        let arguments = [lookup.image.as_ptr() as usize, lookup.image.len(), lookup.application as usize, 0, 0, 0];
+        // SAFETY: as above.
+        unsafe { call_on(stack, card.lookup_call as *const (), arguments) }
+    })
+}
+
 pub fn print_table() {
     let mut stack: Box<Stack> = unsafe { Box::new_zeroed().assume_init() };
     println!("{:36} {:>8} {:>8}", "bytes of stack", "library", "Rust");
@@ -88,5 +96,9 @@ pub fn print_table() {
     for (name, script) in cases::ride_scripts(RIDES) {
         let (library, rust) = (of_play(&mut stack, &LIBRARY, &script), of_play(&mut stack, &RUST, &script));
         println!("{name:36} {library:8} {rust:8}");
+    }
+    for lookup in cases::lookups() {
+        let (library, rust) = (of_lookup(&mut stack, &LIBRARY, &lookup), of_lookup(&mut stack, &RUST, &lookup));
+        println!("{:36} {library:8} {rust:8}", lookup.name);
     }
 }

@@ -29,6 +29,7 @@ mod ffi {
             script_len: usize,
             printout: *mut [u8; 65536],
         ) -> usize;
+        pub fn tirlwheel_lookup(image: *const u8, image_len: usize, application: u32) -> u32;
         pub fn tirlwheel_version() -> u32;
     }
 }
@@ -60,6 +61,15 @@ pub struct SealedAnswer {
     pub number: u8,
     pub sign: Sign,
     pub reply: [u8; 18],
+}
+
+/// What a lookup in an image's directory gives: the number (0 where the directory was read), the lowest sector that holds the
+/// application's number, and how many entries were looked at.
+#[derive(Clone, Copy, Debug, PartialEq, Eq)]
+pub struct Lookup {
+    pub number: u8,
+    pub sector: Option<u8>,
+    pub count: u8,
 }
 
 /// Room for any printout.
@@ -138,6 +148,18 @@ pub fn play<'a>(script: &[u8], printout: &'a mut Printout) -> &'a [u8] {
     // SAFETY: as for a frame.
     let length = unsafe { ffi::tirlwheel_play(script.as_ptr(), script.len(), printout) };
     &printout[..length]
+}
+
+/// Which sector of an image is an application's. The image is read as it stands, without a session.
+pub fn lookup(image: &[u8], application: u32) -> Lookup {
+    // SAFETY: the pointer comes from a slice of that length.
+    let result = unsafe { ffi::tirlwheel_lookup(image.as_ptr(), image.len(), application) };
+    let [number, found, sector, count] = result.to_le_bytes();
+    Lookup {
+        number,
+        sector: (found == 1).then_some(sector),
+        count,
+    }
 }
 
 /// Which boundary this is.

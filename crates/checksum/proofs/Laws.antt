@@ -7,7 +7,7 @@ use native.Mathlib.Omega.{arith}
 use lib.ListN.{getD}
 use lib.Bits.{bitXor, xor-lt, xor-self, xor-zero-r}
 use Rattle.checksum.specs.Checksum.{shifted, shifts, byteOn, bytesOn, crcOf, twoOf}
-use Rattle.checksum.proofs.Xor.{xor-assoc}
+use Rattle.xor.proofs.Xor.{xor-assoc}
 use Rattle.checksum.proofs.Linear.{parts, down}
 
 -- 00 00 has A0 1E, and 12 34 has 26 CF

@@ -1,34 +1,18 @@
 -- Shift steps are linear, and a high byte comes down whole: eight of them go by the low byte's entry in a table.
 -- Assumes nothing.
 use mathlib.Core.Path.{_≡_, refl, sym, _∙_, ap, ap₂}
-use Prim.Native.Nat.{ℕ, zero, suc, _+_, _*_, _/_, _%_, _^_, _<_}
+use Prim.Native.Nat.{ℕ, zero, suc, _+_, _*_, _/_, _%_, _^_}
 use native.Mathlib.Omega.{arith}
-use lib.Bits.{bitXor, xor-shr, xor-mod, xor-comm, xor-zero-r, xor-shifted, shifted-half, shifted-even}
+use lib.Bits.{bitXor, xor-shr, xor-mod, xor-zero-r, xor-shifted, shifted-half, shifted-even}
 use Rattle.checksum.specs.Checksum.{shifted, shifts}
-use Rattle.checksum.proofs.Xor.{xor-assoc}
-
--- the polynomial, by the two bits that fell out
-poly : (x y : ℕ) → x < 2 → y < 2 → bitXor x y * 0x8408 ≡ bitXor (x * 0x8408) (y * 0x8408)
-poly zero zero p q = refl
-poly zero (suc zero) p q = refl
-poly (suc zero) zero p q = refl
-poly (suc zero) (suc zero) p q = refl
-poly zero (suc (suc y)) p q = absurd (omega arith)
-poly (suc zero) (suc (suc y)) p q = absurd (omega arith)
-poly (suc (suc x)) y p q = absurd (omega arith)
-
-swap : (a b c d : ℕ) → bitXor (bitXor a b) (bitXor c d) ≡ bitXor (bitXor a c) (bitXor b d)
-swap a b c d =
-    xor-assoc a b (bitXor c d)
-    ∙ ap (bitXor a) (sym (xor-assoc b c d) ∙ ap (λ (x : ℕ). bitXor x d) (xor-comm b c) ∙ xor-assoc c b d)
-    ∙ sym (xor-assoc a c (bitXor b d))
+use Rattle.xor.proofs.Xor.{xor-swap, xor-times}
 
 shifted-xor : (a b : ℕ) → shifted (bitXor a b) ≡ bitXor (shifted a) (shifted b)
 unfolding shifted
 shifted-xor a b =
     ap₂ (λ (x y : ℕ). bitXor x (y * 0x8408)) (xor-shr a b 1) (xor-mod a b 1)
-    ∙ ap (bitXor (bitXor (a / 2) (b / 2))) (poly (a % 2) (b % 2) (omega arith) (omega arith))
-    ∙ swap (a / 2) (b / 2) (a % 2 * 0x8408) (b % 2 * 0x8408)
+    ∙ ap (bitXor (bitXor (a / 2) (b / 2))) (xor-times 0x8408 (a % 2) (b % 2) (omega arith) (omega arith))
+    ∙ xor-swap (a / 2) (b / 2) (a % 2 * 0x8408) (b % 2 * 0x8408)
 
 shifts-xor : (n a b : ℕ) → shifts n (bitXor a b) ≡ bitXor (shifts n a) (shifts n b)
 unfolding shifts

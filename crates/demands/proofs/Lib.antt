@@ -22,4 +22,6 @@ pub mod OnePlay
 pub mod OneRecord
 pub mod OneBoard
 pub mod OneEdge
+pub mod OneDirectory
+pub mod OneDesk
 pub mod Boundary

@@ -1,0 +1,42 @@
+// The boundary of the desk's tools to C and Rust: numbers and lent bytes. They take an image alone, and no session.
+ghost use mathlib.Core.Path.{_≡_};
+ghost use Prim.Native.Nat.{_<_};
+ghost use Rattle.directory.specs.Lookup.{lookupOf};
+ghost use Rattle.desk.specs.Desk.{flagOf, sectorIn, packedLookup};
+use directory::Found;
+
+fn wide(b: u8) -> u32
+    ensures { λ r. ⌜ (r ≡ b) × (r < 256) ⌝ }
+{
+    b as u32
+}
+
+fn flag(found: Found) -> u8
+    ensures { λ r. ⌜ r ≡ flagOf found ⌝ }
+{
+    match found {
+        Found::At(_) => 1,
+        Found::Nothing => 0,
+    }
+}
+
+fn sector(found: Found) -> u8
+    ensures { λ r. ⌜ r ≡ sectorIn found ⌝ }
+{
+    match found {
+        Found::At(s) => s.0,
+        Found::Nothing => 0,
+    }
+}
+
+// Which sector of an image is an application's.
+#[no_mangle]
+pub extern "C" fn tirlwheel_lookup(image: &[u8], application: u32) -> u32
+    ensures { λ r. ⌜ r ≡ packedLookup (lookupOf (now (image .entry)) application) ⌝ }
+{
+    let a = directory::lookup(image, application);
+    let number = a.number;
+    let found = a.found;
+    let count = a.count;
+    wide(number) + 256 * wide(flag(found)) + 65536 * wide(sector(found)) + 16777216 * wide(count)
+}

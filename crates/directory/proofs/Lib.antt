@@ -1,0 +1,9 @@
+pub mod Linear
+pub mod Register
+pub mod Blocks
+pub mod Numbers
+pub mod Places
+pub mod Ways
+pub mod Every
+pub mod Laws
+pub mod Range

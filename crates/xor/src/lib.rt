@@ -1,0 +1,1 @@
+// No code: laws of exclusive or that the two checksums share.
