@@ -1,5 +1,5 @@
-/* The card desk looks up which sector of a card is whose, and says why where a directory cannot be read.
- * Each line that it prints is what was looked up and what came back. Exit status 0: every answer was the expected one. */
+/* The card desk looks up which sector of a card is whose, says why where a directory cannot be read, and mends a torn value block.
+ * Each line that it prints is what was asked for and what came back. Exit status 0: every answer was the expected one. */
 #include "tirlwheel.h"
 
 #include <stdio.h>
@@ -28,6 +28,20 @@ static void look_up(const char *name, uint32_t application, uint32_t expected)
     surprises += result != expected;
 }
 
+/* A value of 1,000 in block 4, taken away while its second copy was written; block 5 holds nothing that can be mended. */
+static void mend(void)
+{
+    static const uint8_t torn[16] = {0xE8, 0x03, 0, 0, 0x17, 0xFC, 0, 0, 0xE8, 0x03, 0, 0, 0x04, 0xFB, 0x04, 0xFB};
+    static const uint8_t names[4] = {4, 5, 4, 7};
+    static const uint8_t expected[12] = {0, 0xC0, 0, 19, 0, 0, 0, 0, 0, 6, 0, 0};
+    uint8_t report[TIRLWHEEL_REPORT];
+    memcpy(image + 64, torn, sizeof torn);
+    surprises += tirlwheel_mend(image, sizeof image, names, sizeof names, report) != 0;
+    for (int i = 0; i < 4; i++)
+        printf("block %u: number %u, changed %02X%02Xh\n", names[i], report[3 * i], report[3 * i + 2], report[3 * i + 1]);
+    surprises += memcmp(report, expected, sizeof expected) != 0 || image[70] != 0xFF || image[71] != 0xFF;
+}
+
 int main(void)
 {
     make_card();
@@ -39,5 +53,6 @@ int main(void)
     look_up("lift, checksum wrong", 0x4801, 16);
     image[57] = 0x69;
     look_up("lift, no directory", 0x4801, 15);
+    mend();
     return surprises != 0;
 }

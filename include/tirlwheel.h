@@ -1,7 +1,7 @@
 /* Tirlwheel: a MIFARE Classic card in software. Link with libedge.a, which `rt staticlib edge` builds (x86-64 Linux), for
  * tirlwheel_sealed_frame with libchip.a, which `rt staticlib chip` builds, and for tirlwheel_play with libprintout.a, which
  * `rt staticlib printout` builds. A board whose frames all have their checksum links libchip.a, and libedge.a as well if it
- * needs the field reset. The desk's tools, tirlwheel_lookup, are libdesk.a, which `rt staticlib desk` builds.
+ * needs the field reset. The desk's tools, tirlwheel_lookup and tirlwheel_mend, are libdesk.a, which `rt staticlib desk` builds.
  *
  * The libraries open nothing, allocate nothing and keep nothing between calls: image, session and reply are the caller's.
  * Each call's result is proved for every input. What no proof covers is the caller's part: each pointer is good for the length
@@ -21,6 +21,8 @@ extern "C" {
 #define TIRLWHEEL_REPLY 16        /* bytes of a reply */
 #define TIRLWHEEL_SEALED_REPLY 18 /* bytes of a reply with its checksum */
 #define TIRLWHEEL_PRINTOUT 65536  /* bytes of the player's buffer */
+#define TIRLWHEEL_REPORT 768      /* bytes of a report on mended blocks */
+#define TIRLWHEEL_NAMES 256       /* blocks that one call mends at most */
 
 /* A result holds the number in its low byte and the sign in the next. */
 #define TIRLWHEEL_NUMBER(result) ((result) & 0xFFu)
@@ -106,6 +108,34 @@ size_t tirlwheel_play(const uint8_t *script, size_t script_len, uint8_t printout
 #define TIRLWHEEL_SECTOR(result) ((result) >> 16 & 0xFFu)
 #define TIRLWHEEL_COUNT(result) ((result) >> 24)
 uint32_t tirlwheel_lookup(const uint8_t *image, size_t image_len, uint32_t application);
+
+/* Mends value blocks that were torn: the card was taken away while a Transfer ran. `names` are block addresses, at most 256, and the
+ * blocks are mended in that order, each in the image that those before it left; a block may be named again. The image is taken as
+ * it stands: no session is needed, and keys, rights and blocked sectors play no part.
+ *
+ * A value block has three readings of its value, each a whole number of 32 bits: bytes 0 to 3; bytes 4 to 7, inverted; bytes 8 to
+ * 11. It has four readings of its address byte: byte 12; byte 13, inverted; byte 14; byte 15, inverted. Where at least two of the
+ * three agree and at least three of the four, the block is rewritten in full with what they say. A sound block stays as it is.
+ *
+ * The result is the number of the call: 0, or the first of these that applies. Then no byte of the image changes, and the report is
+ * nothing but zeros:
+ *
+ *   11  the image is not 1,024 or 4,096 bytes long
+ *   30  more than 256 names
+ *
+ * `report` is written on every call, all 768 bytes of it: three bytes for each name, in the order of the names, and zeros behind
+ * them. Of the three, the first is the number of that block, the other two, low byte first, are which of its bytes changed: bit i
+ * is set where byte i is now another than before. A sound block has number 0 and no bit; a refused one has no bit, stays as it is,
+ * and those after it are still mended:
+ *
+ *    2  the image has no such block
+ *    6  block 0, or a trailer
+ *   19  no majority: the three readings of the value all differ, or no three of the address byte's agree. Sixteen zeros are such a
+ *       block: two readings of their value are 0, and the address byte's are two against two
+ *
+ * What any other tool keeps beside an image, such as figures that it took from its blocks, does not know of this call: open it anew
+ * afterwards. */
+uint32_t tirlwheel_mend(uint8_t *image, size_t image_len, const uint8_t *names, size_t names_len, uint8_t report[768]);
 
 /* Which boundary this is: 3. A change that a caller would notice counts it up: 2 came with frames that have their checksum, 3 with the
  * refusal of an operand below zero (13). */

@@ -3,6 +3,7 @@
 use crate::card::{self, Answer, SealedReply, Session, FRESH};
 use crate::directory;
 use crate::layout::{is_image, BlockBytes};
+use crate::mending::{self, Report};
 use crate::player;
 use crate::record::{of_session, to_session, Record};
 
@@ -13,6 +14,7 @@ pub type SealedFrameCall = unsafe extern "C" fn(*mut u8, usize, *mut Record, *co
 pub type FieldResetCall = unsafe extern "C" fn(*mut Record, *mut BlockBytes) -> u32;
 pub type PlayCall = unsafe extern "C" fn(*const u8, usize, *mut [u8; PRINTOUT_BYTES]) -> usize;
 pub type LookupCall = unsafe extern "C" fn(*const u8, usize, u32) -> u32;
+pub type MendCall = unsafe extern "C" fn(*mut u8, usize, *const u8, usize, *mut Report) -> u32;
 
 extern "C" {
     fn tirlwheel_frame(image: *mut u8, image_len: usize, session: *mut Record, frame: *const u8, frame_len: usize, reply: *mut BlockBytes) -> u32;
@@ -27,6 +29,7 @@ extern "C" {
     fn tirlwheel_field_reset(session: *mut Record, reply: *mut BlockBytes) -> u32;
     fn tirlwheel_play(script: *const u8, script_len: usize, printout: *mut [u8; PRINTOUT_BYTES]) -> usize;
     fn tirlwheel_lookup(image: *const u8, image_len: usize, application: u32) -> u32;
+    fn tirlwheel_mend(image: *mut u8, image_len: usize, names: *const u8, names_len: usize, report: *mut Report) -> u32;
 }
 
 #[derive(Clone, Copy)]
@@ -36,6 +39,7 @@ pub struct Card {
     pub field_reset_call: FieldResetCall,
     pub play_call: PlayCall,
     pub lookup_call: LookupCall,
+    pub mend_call: MendCall,
 }
 
 pub const LIBRARY: Card = Card {
@@ -44,6 +48,7 @@ pub const LIBRARY: Card = Card {
     field_reset_call: tirlwheel_field_reset,
     play_call: tirlwheel_play,
     lookup_call: tirlwheel_lookup,
+    mend_call: tirlwheel_mend,
 };
 pub const RUST: Card = Card {
     frame_call: rust_frame,
@@ -51,6 +56,7 @@ pub const RUST: Card = Card {
     field_reset_call: rust_field_reset,
     play_call: rust_play,
     lookup_call: rust_lookup,
+    mend_call: rust_mend,
 };
 
 impl Card {
@@ -80,6 +86,12 @@ impl Card {
     pub fn lookup(&self, image: &[u8], application: u32) -> u32 {
         // SAFETY: true length.
         unsafe { (self.lookup_call)(image.as_ptr(), image.len(), application) }
+    }
+
+    /// The number of the call.
+    pub fn mend(&self, image: &mut [u8], names: &[u8], report: &mut Report) -> u32 {
+        // SAFETY: true lengths, and distinct borrows do not overlap.
+        unsafe { (self.mend_call)(image.as_mut_ptr(), image.len(), names.as_ptr(), names.len(), report) }
     }
 }
 
@@ -147,4 +159,9 @@ unsafe extern "C" fn rust_play(script: *const u8, script_len: usize, printout: *
 unsafe extern "C" fn rust_lookup(image: *const u8, image_len: usize, application: u32) -> u32 {
     let found = directory::lookup(std::slice::from_raw_parts(image, image_len), application);
     u32::from_le_bytes([found.number, found.sector.is_some() as u8, found.sector.unwrap_or(0), found.count])
+}
+
+unsafe extern "C" fn rust_mend(image: *mut u8, image_len: usize, names: *const u8, names_len: usize, report: *mut Report) -> u32 {
+    let (image, names) = (std::slice::from_raw_parts_mut(image, image_len), std::slice::from_raw_parts(names, names_len));
+    mending::mend(image, names, &mut *report).into()
 }

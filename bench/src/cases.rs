@@ -229,3 +229,32 @@ pub fn lookups() -> Vec<Lookup> {
     .map(|(name, image, application)| Lookup { name, image: image.clone(), application })
     .into()
 }
+
+/// Blocks of an image to mend.
+pub struct Mending {
+    pub name: &'static str,
+    pub image: Vec<u8>,
+    pub names: Vec<u8>,
+}
+
+/// One block that is sound, torn in its value, torn in its address, and without a majority; and every data block of a large card torn.
+pub fn mendings() -> Vec<Mending> {
+    let sound = Value { number: 1000, address: 4 }.encode();
+    let torn = |at: usize| {
+        let mut image = vec![0; 4096];
+        image.chunks_mut(BLOCK_BYTES).for_each(|block| block.copy_from_slice(&sound));
+        image.iter_mut().skip(at).step_by(BLOCK_BYTES).for_each(|byte| *byte ^= 0x10);
+        image
+    };
+    let whole = sound.repeat(4096 / BLOCK_BYTES);
+    let data: Vec<u8> = (1..=254).filter(|block| !is_trailer(*block)).collect();
+    [
+        ("mend, a sound block", whole, vec![4]),
+        ("mend, a torn value", torn(2), vec![4]),
+        ("mend, a torn address", torn(13), vec![4]),
+        ("mend, no majority", vec![0; 4096], vec![4]),
+        ("mend, all data blocks, 4K", torn(6), data),
+    ]
+    .map(|(name, image, names)| Mending { name, image, names })
+    .into()
+}

@@ -24,9 +24,11 @@ pub fn count(card: &Card) {
 
 /// Instructions for each case, on the library and on the Rust card.
 pub fn of_both() -> Vec<(f64, f64)> {
-    let of_library =
-        counted("library", &["tirlwheel_frame", "tirlwheel_sealed_frame", "tirlwheel_field_reset", "tirlwheel_play", "tirlwheel_lookup"]);
-    let of_rust = counted("rust", &["*rust_frame*", "*rust_sealed_frame*", "*rust_field_reset*", "*rust_play*", "*rust_lookup*"]);
+    let of_library = counted(
+        "library",
+        &["tirlwheel_frame", "tirlwheel_sealed_frame", "tirlwheel_field_reset", "tirlwheel_play", "tirlwheel_lookup", "tirlwheel_mend"],
+    );
+    let of_rust = counted("rust", &["*rust_frame*", "*rust_sealed_frame*", "*rust_field_reset*", "*rust_play*", "*rust_lookup*", "*rust_mend*"]);
     of_library.into_iter().zip(of_rust).collect()
 }
 

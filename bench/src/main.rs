@@ -12,6 +12,8 @@ mod images;
 mod instructions;
 mod layout;
 mod lookups;
+mod mending;
+mod mendings;
 mod player;
 mod random;
 mod reader;
@@ -28,7 +30,7 @@ mod value;
 use calls::{LIBRARY, RUST};
 use std::process::ExitCode;
 
-const USAGE: &str = "usage: bench differ SEED COUNT | scripts SEED COUNT PLAYER | lookups SEED COUNT | speed | stack";
+const USAGE: &str = "usage: bench differ SEED COUNT | scripts SEED COUNT PLAYER | lookups SEED COUNT | mendings SEED COUNT | speed | stack";
 
 fn main() -> ExitCode {
     let words: Vec<String> = std::env::args().skip(1).collect();
@@ -37,6 +39,7 @@ fn main() -> ExitCode {
         ["differ", seed, count] => differ::run(number(seed), number(count)),
         ["scripts", seed, count, player] => scripts::run(number(seed), number(count), player),
         ["lookups", seed, count] => lookups::run(number(seed), number(count)),
+        ["mendings", seed, count] => mendings::run(number(seed), number(count)),
         ["speed"] => {
             speed::print_table();
             true

@@ -2,9 +2,10 @@
 
 use crate::calls::{Card, LIBRARY, PRINTOUT_BYTES, RUST};
 use crate::card::SealedReply;
-use crate::cases::{self, Case, Lookup};
+use crate::cases::{self, Case, Lookup, Mending};
 use crate::instructions;
 use crate::layout::BlockBytes;
+use crate::mending::{Report, REPORT_BYTES};
 use crate::record::Record;
 use std::time::Instant;
 
@@ -19,8 +20,14 @@ const NOISE: f64 = 0.5;
 const GOAL: f64 = 1.2;
 
 /// A card that does nothing: what the loop and the call cost by themselves.
-const NOTHING: Card =
-    Card { frame_call: no_frame, sealed_frame_call: no_sealed_frame, field_reset_call: no_reset, play_call: no_play, lookup_call: no_lookup };
+const NOTHING: Card = Card {
+    frame_call: no_frame,
+    sealed_frame_call: no_sealed_frame,
+    field_reset_call: no_reset,
+    play_call: no_play,
+    lookup_call: no_lookup,
+    mend_call: no_mend,
+};
 
 unsafe extern "C" fn no_frame(_: *mut u8, _: usize, _: *mut Record, _: *const u8, _: usize, _: *mut BlockBytes) -> u32 {
     0
@@ -39,6 +46,10 @@ unsafe extern "C" fn no_play(_: *const u8, _: usize, _: *mut [u8; PRINTOUT_BYTES
 }
 
 unsafe extern "C" fn no_lookup(_: *const u8, _: usize, _: u32) -> u32 {
+    0
+}
+
+unsafe extern "C" fn no_mend(_: *mut u8, _: usize, _: *const u8, _: usize, _: *mut Report) -> u32 {
     0
 }
 
@@ -70,6 +81,18 @@ impl Work {
         Work { name: lookup.name.to_string(), times: CALLS_PER_ROUND, send: Box::new(send) }
     }
 
+    /// The image is torn anew before each call.
+    fn of_mending(mending: Mending) -> Work {
+        let (mut image, mut report) = (mending.image.clone(), [0; REPORT_BYTES]);
+        let times = CALLS_PER_ROUND / mending.names.len() as u32;
+        let name = mending.name.to_string();
+        let send = move |card: &Card| {
+            image.copy_from_slice(&mending.image);
+            std::hint::black_box(card.mend(&mut image, &mending.names, &mut report));
+        };
+        Work { name, times, send: Box::new(send) }
+    }
+
     pub fn repeat(&mut self, card: &Card, times: u32) {
         for _ in 0..times {
             (self.send)(std::hint::black_box(card));
@@ -93,7 +116,8 @@ pub fn works() -> Vec<Work> {
     let cases = cases::all().into_iter().map(Work::of_case);
     let scripts = cases::ride_scripts(RIDES).into_iter().map(|(name, script)| Work::of_script(name, script));
     let lookups = cases::lookups().into_iter().map(Work::of_lookup);
-    cases.chain(scripts).chain(lookups).collect()
+    let mendings = cases::mendings().into_iter().map(Work::of_mending);
+    cases.chain(scripts).chain(lookups).chain(mendings).collect()
 }
 
 /// The shortest nanoseconds of the empty card, the library and the Rust card.
@@ -124,9 +148,9 @@ pub fn print_table() {
     for _ in 0..ROUNDS {
         works.iter_mut().zip(&mut times).for_each(|(work, least)| work.time_once(least));
     }
-    let mut dear = [Dear::new("bare frames"), Dear::new("frames with their checksum"), Dear::new("lookups")];
+    let mut dear = [Dear::new("bare frames"), Dear::new("frames with their checksum"), Dear::new("lookups"), Dear::new("mendings")];
     for ((work, times), counted) in works.iter().zip(times).zip(counted) {
-        let entry = usize::from(work.name.starts_with("sealed")) + 2 * usize::from(work.name.starts_with("lookup"));
+        let entry = ["sealed", "lookup", "mend"].iter().position(|word| work.name.starts_with(word)).map_or(0, |place| place + 1);
         dear[entry].add(print_line(work, times, counted));
     }
     dear.iter().for_each(Dear::print);

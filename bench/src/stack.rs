@@ -2,7 +2,8 @@
 
 use crate::calls::{Card, LIBRARY, PRINTOUT_BYTES, RUST};
 use crate::card::SEALED_BYTES;
-use crate::cases::{self, Case, Lookup};
+use crate::cases::{self, Case, Lookup, Mending};
+use crate::mending::REPORT_BYTES;
 use crate::reader::Sent;
 use crate::speed::RIDES;
 use std::arch::asm;
@@ -85,6 +86,16 @@ fn of_lookup(stack: &mut Stack, card: &Card, lookup: &Lookup) -> usize {
     })
 }
 
+fn of_mending(stack: &mut Stack, card: &Card, mending: &Mending) -> usize {
+    let (mut image, mut report) = (mending.image.clone(), [0u8; REPORT_BYTES]);
+    depth(stack, |stack| {
+        let (names, report) = (&mending.names, report.as_mut_ptr() as usize);
+        let arguments = [image.as_mut_ptr() as usize, image.len(), names.as_ptr() as usize, names.len(), report, 0];
+        // SAFETY: as above.
+        unsafe { call_on(stack, card.mend_call as *const (), arguments) }
+    })
+}
+
 pub fn print_table() {
     let mut stack: Box<Stack> = unsafe { Box::new_zeroed().assume_init() };
     println!("{:36} {:>8} {:>8}", "bytes of stack", "library", "Rust");
@@ -100,5 +111,9 @@ pub fn print_table() {
     for lookup in cases::lookups() {
         let (library, rust) = (of_lookup(&mut stack, &LIBRARY, &lookup), of_lookup(&mut stack, &RUST, &lookup));
         println!("{:36} {library:8} {rust:8}", lookup.name);
+    }
+    for mending in cases::mendings() {
+        let (library, rust) = (of_mending(&mut stack, &LIBRARY, &mending), of_mending(&mut stack, &RUST, &mending));
+        println!("{:36} {library:8} {rust:8}", mending.name);
     }
 }

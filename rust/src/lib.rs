@@ -30,6 +30,13 @@ mod ffi {
             printout: *mut [u8; 65536],
         ) -> usize;
         pub fn tirlwheel_lookup(image: *const u8, image_len: usize, application: u32) -> u32;
+        pub fn tirlwheel_mend(
+            image: *mut u8,
+            image_len: usize,
+            names: *const u8,
+            names_len: usize,
+            report: *mut [u8; 768],
+        ) -> u32;
         pub fn tirlwheel_version() -> u32;
     }
 }
@@ -70,6 +77,29 @@ pub struct Lookup {
     pub number: u8,
     pub sector: Option<u8>,
     pub count: u8,
+}
+
+/// What is told of one named block: its number (0 where it is sound or was mended), and which of its sixteen bytes changed, bit i
+/// for byte i.
+#[derive(Clone, Copy, Debug, PartialEq, Eq)]
+pub struct Mended {
+    pub number: u8,
+    pub changed: u16,
+}
+
+/// The report on named blocks, three bytes for each.
+#[derive(Clone, Copy, Debug, PartialEq, Eq)]
+pub struct Report(pub [u8; 768]);
+
+impl Report {
+    /// What is told of the block that was named at a place, from 0 on; zeros behind the last name.
+    pub fn at(&self, place: usize) -> Mended {
+        let row = &self.0[3 * place..3 * place + 3];
+        Mended {
+            number: row[0],
+            changed: u16::from_le_bytes([row[1], row[2]]),
+        }
+    }
 }
 
 /// Room for any printout.
@@ -160,6 +190,23 @@ pub fn lookup(image: &[u8], application: u32) -> Lookup {
         sector: (found == 1).then_some(sector),
         count,
     }
+}
+
+/// Torn value blocks of an image, mended in the order in which they are named; and the number of the call. The image is taken as
+/// it stands, without a session. What other tools keep beside the image must be opened anew afterwards.
+pub fn mend(image: &mut [u8], names: &[u8]) -> (u8, Report) {
+    let mut report = [0; 768];
+    // SAFETY: the pointers come from slices of those lengths, and from an array of its own.
+    let result = unsafe {
+        ffi::tirlwheel_mend(
+            image.as_mut_ptr(),
+            image.len(),
+            names.as_ptr(),
+            names.len(),
+            &mut report,
+        )
+    };
+    (result as u8, Report(report))
 }
 
 /// Which boundary this is.

@@ -23,5 +23,6 @@ pub mod OneRecord
 pub mod OneBoard
 pub mod OneEdge
 pub mod OneDirectory
+pub mod OneMend
 pub mod OneDesk
 pub mod Boundary

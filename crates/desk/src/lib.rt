@@ -1,7 +1,9 @@
 // The boundary of the desk's tools to C and Rust: numbers and lent bytes. They take an image alone, and no session.
 ghost use mathlib.Core.Path.{_≡_};
 ghost use Prim.Native.Nat.{_<_};
+ghost use lib.ListN.{length};
 ghost use Rattle.directory.specs.Lookup.{lookupOf};
+ghost use Rattle.mend.specs.All.{callNumber, mendedImage, reportOf};
 ghost use Rattle.desk.specs.Desk.{flagOf, sectorIn, packedLookup};
 use directory::Found;
 
@@ -39,4 +41,15 @@ pub extern "C" fn tirlwheel_lookup(image: &[u8], application: u32) -> u32
     let found = a.found;
     let count = a.count;
     wide(number) + 256 * wide(flag(found)) + 65536 * wide(sector(found)) + 16777216 * wide(count)
+}
+
+// Torn value blocks of an image, mended in the order of their names.
+#[no_mangle]
+pub extern "C" fn tirlwheel_mend(image: &mut [u8], names: &[u8], report: &mut [u8; 768]) -> u32
+    ensures { λ r. ⌜ r ≡ callNumber (length (now (image .entry))) (length (now (names .entry))) ⌝ }
+    ensures { λ _. ⌜ now (image .exit) ≡ mendedImage (now (image .entry)) (now (names .entry)) ⌝ }
+    ensures { λ _. ⌜ now (report .exit) ≡ reportOf (now (image .entry)) (now (names .entry)) ⌝ }
+{
+    let told = mend::mend(image, names, report);
+    wide(told)
 }
