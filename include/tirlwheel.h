@@ -1,9 +1,15 @@
-/* Tirlwheel: a MIFARE Classic card in software. Link with libedge.a, which `rt staticlib edge` builds (x86-64 Linux), for
- * tirlwheel_sealed_frame with libchip.a, which `rt staticlib chip` builds, and for tirlwheel_play with libprintout.a, which
- * `rt staticlib printout` builds. A board whose frames all have their checksum links libchip.a, and libedge.a as well if it
- * needs the field reset. The desk's tools, tirlwheel_lookup and tirlwheel_mend, are libdesk.a, which `rt staticlib desk` builds.
+/* Tirlwheel: a MIFARE Classic card in software, of the old edition and of EV1. Link with what `rt staticlib NAME` builds (x86-64 Linux):
  *
- * The libraries open nothing, allocate nothing and keep nothing between calls: image, session and reply are the caller's.
+ *   libcardedge.a  tirlwheel_card_frame and tirlwheel_card_reset: a card of either edition, with its record
+ *   libcardchip.a  tirlwheel_card_sealed_frame: the same for frames that have their checksum
+ *   libedge.a      tirlwheel_frame and tirlwheel_field_reset, the short form for an old card; tirlwheel_version
+ *   libchip.a      tirlwheel_sealed_frame, the short form for frames that have their checksum
+ *   libevprint.a   tirlwheel_play_ev1, and libprintout.a  tirlwheel_play: the players
+ *   libdesk.a      tirlwheel_lookup and tirlwheel_mend: the desk's tools
+ *
+ * A board whose frames all have their checksum links libcardchip.a, and libcardedge.a as well if it needs the field reset.
+ *
+ * The libraries open nothing, allocate nothing and keep nothing between calls: image, records and reply are the caller's.
  * Each call's result is proved for every input. What no proof covers is the caller's part: each pointer is good for the length
  * that goes with it, also where that is 0; no pointer is null; and what one call is given does not overlap.
  */
@@ -17,6 +23,7 @@
 extern "C" {
 #endif
 
+#define TIRLWHEEL_CARD 4          /* bytes of a card's record */
 #define TIRLWHEEL_SESSION 12      /* bytes of a session's record */
 #define TIRLWHEEL_REPLY 16        /* bytes of a reply */
 #define TIRLWHEEL_SEALED_REPLY 18 /* bytes of a reply with its checksum */
@@ -24,9 +31,10 @@ extern "C" {
 #define TIRLWHEEL_REPORT 768      /* bytes of a report on mended blocks */
 #define TIRLWHEEL_NAMES 256       /* blocks that one call mends at most */
 
-/* A result holds the number in its low byte and the sign in the next. */
+/* A result holds the number in its low byte, the sign in the next, and the value of an EV1's NAK in the one behind; the last is 0. */
 #define TIRLWHEEL_NUMBER(result) ((result) & 0xFFu)
-#define TIRLWHEEL_SIGN(result) ((result) >> 8)
+#define TIRLWHEEL_SIGN(result) ((result) >> 8 & 0xFFu)
+#define TIRLWHEEL_VALUE(result) ((result) >> 16 & 0xFFu)
 
 /* What went on the air. */
 #define TIRLWHEEL_ACK 0u
@@ -34,14 +42,38 @@ extern "C" {
 #define TIRLWHEEL_DATA 2u /* the sixteen bytes of a Read, with their checksum if the frame had one */
 #define TIRLWHEEL_NOTHING 3u
 
-/* The numbers. 0 is accepted. Every other is a refusal: it changes no byte of the image, clears the reply and leaves the fresh
- * session, so the authentication, an awaited second frame and the register are gone. The first that applies is given, in this order:
+/* The value of an EV1's NAK, by section 9.3 of its sheet. The transfer buffer there is the register here, as the session that was handed
+ * to the call has it: a refusal empties it, and the value still tells of it.
  *
- *   11  the image is not 1,024 or 4,096 bytes long                                                          nothing on the air
+ *   0h  the register was full, invalid operation: every number but 14
+ *   1h  the register was full, checksum error: 14
+ *   4h  the register was empty, invalid operation
+ *   5h  the register was empty, checksum error
+ *
+ * An old card's NAK has no value, and neither has any other sign: there the byte is 0, so ask for the sign and the edition first. */
+
+/* The record of a card. Four zeros are an old one, and 1 0 0 0 is an EV1 as it is delivered: start with either.
+ *
+ *   byte 0  the edition: 0 old, 1 EV1
+ *   byte 1  how its UID is used: 0 open to a choice, 1 locked for good
+ *   byte 2  the type that was chosen: 00h, 40h, 20h or 60h, for UIDF0 to UIDF3 of the sheet; 0 where it is open
+ *   byte 3  0
+ *
+ * Only an accepted Personalize UID Usage changes it, on an EV1: keep it where the image is kept, since the choice outlives every field
+ * reset. An old card whose record has a choice is a card like any other old one; the choice changes nothing there and stays as it is. */
+#define TIRLWHEEL_OLD 0u
+#define TIRLWHEEL_EV1 1u
+
+/* The numbers. 0 is accepted. Every other is a refusal: it changes no byte of the image or of the card's record, clears the reply and
+ * leaves the fresh session, so the authentication, an awaited second frame and the register are gone. The first that applies is given,
+ * in this order:
+ *
+ *   11  the four bytes are no card's record; the image is not 1,024 or 4,096 bytes long, or not 4,096 for an EV1
+ *                                                                                                           nothing on the air
  *   12  the session names a sector the image lacks, or has a stage or a full register with nobody authenticated,
  *       or the twelve bytes are no session's record                                                         nothing
  *   14  fewer than three bytes, or the last two are not the checksum of the rest; a Halt's too
- *       (tirlwheel_sealed_frame only)                                                                       NAK
+ *       (tirlwheel_card_sealed_frame and tirlwheel_sealed_frame only)                                       NAK
  *    1  unknown code, wrong length, empty frame, or a Halt whose second byte is not 00h                     nothing
  *    2  no such block                                                                                       NAK
  *    3  the block's sector is not the authenticated one, or none is                                         NAK
@@ -53,6 +85,12 @@ extern "C" {
  *    9  Transfer with an empty register                                                                     NAK
  *   13  the operand of an increment or a decrement is below zero                                            NAK
  *   10  the result of a value operation is outside -2,147,483,648 to 2,147,483,647                          NAK
+ *
+ * Personalize UID Usage, 40h and one byte for the type, is an EV1's: to an old card it is an unknown code, 1. It is refused with 3, 5
+ * and 7 as a Read of block 0 is, and then with
+ *
+ *   17  none of the four types                                                                              NAK
+ *   18  a choice is locked already, be it the same                                                          NAK
  */
 
 /* The record of a session. Twelve zeros are the fresh one: start with them.
@@ -67,26 +105,46 @@ extern "C" {
  *   bytes 8..11  its value, low byte first; 0 where it is empty
  */
 
-/* One frame, as a reader sends it, without checksum. `session` is the record before the frame, and afterwards the one to hand to
- * the next call. `image` is changed by an accepted Write or Transfer only, in that block's sixteen bytes. `reply` is the block
- * for an accepted Read and sixteen zeros for every other answer. */
-uint32_t tirlwheel_frame(uint8_t *image, size_t image_len, uint8_t session[12], const uint8_t *frame, size_t frame_len,
-                         uint8_t reply[16]);
+/* One frame, as a reader sends it, without checksum, to the card whose record is `card`. `session` is the record before the frame, and
+ * afterwards the one to hand to the next call. `image` is changed by an accepted Write or Transfer only, in that block's sixteen bytes,
+ * and `card` by an accepted Personalize UID Usage only, which keeps image and session: ACK, and its choice is locked. `reply` is the
+ * block for an accepted Read and sixteen zeros for every other answer. Four bytes that are no card's record stand for no card: 11, and
+ * they come back as they were. */
+uint32_t tirlwheel_card_frame(uint8_t *image, size_t image_len, uint8_t card[4], uint8_t session[12], const uint8_t *frame,
+                              size_t frame_len, uint8_t reply[16]);
 
 /* One frame as a reader chip hands it over: the bytes of a frame, then their CRC_A of ISO/IEC 14443-3, low byte first. With a
- * right checksum it is answered as tirlwheel_frame answers the bytes before it; so 1 judges the length without it. `reply` is the
- * block and its checksum for an accepted Read and eighteen zeros for every other answer. The session's record is that of
- * tirlwheel_frame: the two may be called in turn, and the field reset is tirlwheel_field_reset. */
+ * right checksum it is answered as tirlwheel_card_frame answers the bytes before it; so 1 judges the length without it. `reply` is the
+ * block and its checksum for an accepted Read and eighteen zeros for every other answer. The records are those of
+ * tirlwheel_card_frame: the two may be called in turn, and the field reset is tirlwheel_card_reset. */
+uint32_t tirlwheel_card_sealed_frame(uint8_t *image, size_t image_len, uint8_t card[4], uint8_t session[12], const uint8_t *frame,
+                                     size_t frame_len, uint8_t reply[18]);
+
+/* The reader's field went away and came back. Always accepted, whatever the twelve bytes were, and the four: number 0, nothing on the
+ * air, the fresh session, sixteen zeros. The card's record stays as it is, and so does its choice. */
+uint32_t tirlwheel_card_reset(const uint8_t card[4], uint8_t session[12], uint8_t reply[16]);
+
+/* The short form for an old card: what tirlwheel_card_frame, tirlwheel_card_sealed_frame and tirlwheel_card_reset give with four zeros
+ * for the card's record, which an old card never changes. */
+uint32_t tirlwheel_frame(uint8_t *image, size_t image_len, uint8_t session[12], const uint8_t *frame, size_t frame_len,
+                         uint8_t reply[16]);
 uint32_t tirlwheel_sealed_frame(uint8_t *image, size_t image_len, uint8_t session[12], const uint8_t *frame, size_t frame_len,
                                 uint8_t reply[18]);
-
-/* The reader's field went away and came back. Always accepted, whatever the twelve bytes were: number 0, nothing on the air, the
- * fresh session, sixteen zeros. */
 uint32_t tirlwheel_field_reset(uint8_t session[12], uint8_t reply[16]);
 
-/* Plays a script (an image and its events, in the format that the README shows) and writes the printout from the start of the
- * buffer; the rest of the buffer stays as it was. Gives the printout's length. A script that is refused (20 to 24) prints one line. */
+/* Plays a script on an old card (an image and its events, in the format that the README shows) and writes the printout from the start
+ * of the buffer; the rest of the buffer stays as it was. Gives the printout's length. A script that is refused (20 to 24) prints one
+ * line. */
 size_t tirlwheel_play(const uint8_t *script, size_t script_len, uint8_t printout[65536]);
+
+/* The same on an EV1. Its script has a third section behind the events: a count of one byte and, where that is 1, the type that is locked
+ * at the start. The `N` of a NAK is followed by its value as one hexadecimal digit, with no space. The image must have 4,096 bytes, or 21
+ * refuses the script. Two refusals are new: 25, the count is above 1, and 26, the type is none of the four; 20, where bytes are missing,
+ * and 24, where some are left over, go by the new end. */
+size_t tirlwheel_play_ev1(const uint8_t *script, size_t script_len, uint8_t printout[65536]);
+
+/* The desk's tools, tirlwheel_lookup and tirlwheel_mend, take no card's record: an image is looked up and mended in the same way for
+ * either edition, and 11 there asks for one of the two sizes alone. */
 
 /* Which sector is an application's, by the MIFARE Application Directory of NXP's AN10787. The image is read as it stands: no session
  * is needed, and keys, rights and blocked sectors play no part. A result has four bytes:
@@ -137,8 +195,8 @@ uint32_t tirlwheel_lookup(const uint8_t *image, size_t image_len, uint32_t appli
  * afterwards. */
 uint32_t tirlwheel_mend(uint8_t *image, size_t image_len, const uint8_t *names, size_t names_len, uint8_t report[768]);
 
-/* Which boundary this is: 3. A change that a caller would notice counts it up: 2 came with frames that have their checksum, 3 with the
- * refusal of an operand below zero (13). */
+/* Which boundary this is: 4. A change that a caller would notice counts it up: 2 came with frames that have their checksum, 3 with the
+ * refusal of an operand below zero (13), 4 with the card's record and the EV1. */
 uint32_t tirlwheel_version(void);
 
 #ifdef __cplusplus

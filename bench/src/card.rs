@@ -55,11 +55,15 @@ pub fn refusal(number: u8) -> Answer {
 }
 
 /// An accepted frame's sign, or the number of its refusal.
-type Judged = Result<Sign, u8>;
+pub type Judged = Result<Sign, u8>;
 
-/// The entry that a frame came by. The compiler builds a card for each, as there is one in each of the libraries; shared, both would be slower.
-const BARE: bool = false;
-const SEALED: bool = true;
+/// The entry that a frame came by. The compiler builds a card for each, as there is one in each of the libraries; shared, all would be slower.
+const BARE: u8 = 0;
+const SEALED: u8 = 1;
+/// With the card's record beside the image; the last is the EV1's player's.
+pub const RECORD: u8 = 2;
+pub const SEALED_RECORD: u8 = 3;
+pub const PLAYED_RECORD: u8 = 4;
 
 pub fn frame(image: &mut [u8], session: &mut Session, frame: &[u8], reply: &mut BlockBytes) -> Answer {
     *reply = [0; 16];
@@ -69,16 +73,23 @@ pub fn frame(image: &mut [u8], session: &mut Session, frame: &[u8], reply: &mut 
 
 /// A frame with its checksum, as the reader chip hands it over. The reply of a Read has its own.
 pub fn sealed_frame(image: &mut [u8], session: &mut Session, frame: &[u8], reply: &mut SealedReply) -> Answer {
-    *reply = [0; SEALED_BYTES];
-    let (data, seal) = reply.split_first_chunk_mut().unwrap();
-    let judged = judge_sealed(image, session, frame, data);
-    if judged == Ok(Sign::Data) {
-        seal.copy_from_slice(&seal_of(data));
-    }
+    let judged = with_seal(reply, |data| judge_sealed(image, session, frame, data));
     answered(session, judged)
 }
 
-fn answered(session: &mut Session, judged: Judged) -> Answer {
+/// Judges over the first sixteen bytes of a reply, and puts the checksum of a Read's behind them.
+#[inline(always)]
+pub fn with_seal(reply: &mut SealedReply, judge: impl FnOnce(&mut BlockBytes) -> Judged) -> Judged {
+    *reply = [0; SEALED_BYTES];
+    let (data, seal) = reply.split_first_chunk_mut().unwrap();
+    let judged = judge(data);
+    if judged == Ok(Sign::Data) {
+        seal.copy_from_slice(&seal_of(data));
+    }
+    judged
+}
+
+pub fn answered(session: &mut Session, judged: Judged) -> Answer {
     match judged {
         Ok(sign) => Answer { number: 0, sign },
         Err(number) => {
@@ -106,7 +117,7 @@ fn judge_sealed(image: &mut [u8], session: &mut Session, frame: &[u8], reply: &m
 }
 
 /// The checks that come before the frame's own.
-fn fit<const ENTRY: bool>(image: &[u8], session: &Session) -> Result<(), u8> {
+pub fn fit<const ENTRY: u8>(image: &[u8], session: &Session) -> Result<(), u8> {
     if !is_image(image) {
         return Err(11);
     }
@@ -117,12 +128,12 @@ fn fit<const ENTRY: bool>(image: &[u8], session: &Session) -> Result<(), u8> {
 }
 
 /// The bytes before a right checksum, if there are any.
-fn unsealed(frame: &[u8]) -> Option<&[u8]> {
+pub fn unsealed(frame: &[u8]) -> Option<&[u8]> {
     let (bytes, seal) = frame.split_last_chunk()?;
     (!bytes.is_empty() && *seal == seal_of(bytes)).then_some(bytes)
 }
 
-fn obey<const ENTRY: bool>(image: &mut [u8], session: &mut Session, frame: &[u8], reply: &mut BlockBytes) -> Judged {
+pub fn obey<const ENTRY: u8>(image: &mut [u8], session: &mut Session, frame: &[u8], reply: &mut BlockBytes) -> Judged {
     match session.stage {
         Stage::None => command::<ENTRY>(image, session, frame, reply),
         Stage::Write { block } => write_data::<ENTRY>(image, session, block, frame),
@@ -130,14 +141,14 @@ fn obey<const ENTRY: bool>(image: &mut [u8], session: &mut Session, frame: &[u8]
     }
 }
 
-fn is_coherent<const ENTRY: bool>(image: &[u8], session: &Session) -> bool {
+fn is_coherent<const ENTRY: u8>(image: &[u8], session: &Session) -> bool {
     match session.authenticated {
         Some((sector, _)) => sector < sectors(image),
         None => session.stage == Stage::None && session.register.is_none(),
     }
 }
 
-fn command<const ENTRY: bool>(image: &mut [u8], session: &mut Session, frame: &[u8], reply: &mut BlockBytes) -> Judged {
+fn command<const ENTRY: u8>(image: &mut [u8], session: &mut Session, frame: &[u8], reply: &mut BlockBytes) -> Judged {
     match *frame {
         [0x60, block, ref key @ ..] if key.len() == 6 => authenticate::<ENTRY>(image, session, block, Key::A, key.try_into().unwrap()),
         [0x61, block, ref key @ ..] if key.len() == 6 => authenticate::<ENTRY>(image, session, block, Key::B, key.try_into().unwrap()),
@@ -155,7 +166,7 @@ fn command<const ENTRY: bool>(image: &mut [u8], session: &mut Session, frame: &[
     }
 }
 
-fn authenticate<const ENTRY: bool>(image: &[u8], session: &mut Session, block: u8, key: Key, sent: &[u8; 6]) -> Judged {
+fn authenticate<const ENTRY: u8>(image: &[u8], session: &mut Session, block: u8, key: Key, sent: &[u8; 6]) -> Judged {
     if !has_block(image, block) {
         return Err(2);
     }
@@ -178,7 +189,7 @@ fn authenticate<const ENTRY: bool>(image: &[u8], session: &mut Session, block: u
 /// Checks 2, 3, 5, 6 and 7 of a memory command; then the key, and the trailer's row of its sector.
 /// Inlined, like `source`: a call loads the session's bytes as one word just after they were stored one by one, and waits for them.
 #[inline(always)]
-fn permitted<const ENTRY: bool>(image: &[u8], session: &Session, block: u8, column: usize, is_value: bool) -> Result<(Key, u8), u8> {
+pub fn permitted<const ENTRY: u8>(image: &[u8], session: &Session, block: u8, column: usize, is_value: bool) -> Result<(Key, u8), u8> {
     if !has_block(image, block) {
         return Err(2);
     }
@@ -201,7 +212,7 @@ fn permitted<const ENTRY: bool>(image: &[u8], session: &Session, block: u8, colu
     Ok((key, trailer_row))
 }
 
-fn read<const ENTRY: bool>(image: &[u8], session: &Session, block: u8, reply: &mut BlockBytes) -> Judged {
+fn read<const ENTRY: u8>(image: &[u8], session: &Session, block: u8, reply: &mut BlockBytes) -> Judged {
     let (_, trailer_row) = permitted::<ENTRY>(image, session, block, READ, false)?;
     *reply = *bytes_of(image, block);
     if is_trailer(block) {
@@ -213,13 +224,13 @@ fn read<const ENTRY: bool>(image: &[u8], session: &Session, block: u8, reply: &m
     Ok(Sign::Data)
 }
 
-fn write<const ENTRY: bool>(image: &[u8], session: &mut Session, block: u8) -> Judged {
+fn write<const ENTRY: u8>(image: &[u8], session: &mut Session, block: u8) -> Judged {
     permitted::<ENTRY>(image, session, block, WRITE, false)?;
     session.stage = Stage::Write { block };
     Ok(Sign::Ack)
 }
 
-fn write_data<const ENTRY: bool>(image: &mut [u8], session: &mut Session, block: u8, frame: &[u8]) -> Judged {
+fn write_data<const ENTRY: u8>(image: &mut [u8], session: &mut Session, block: u8, frame: &[u8]) -> Judged {
     let data: &BlockBytes = frame.try_into().map_err(|_| 1)?;
     let (key, trailer_row) = permitted::<ENTRY>(image, session, block, WRITE, false)?;
     let stored = bytes_of_mut(image, block);
@@ -233,7 +244,7 @@ fn write_data<const ENTRY: bool>(image: &mut [u8], session: &mut Session, block:
 }
 
 /// Stores the parts that the key may write.
-fn write_trailer<const ENTRY: bool>(stored: &mut BlockBytes, data: &BlockBytes, key: Key, trailer_row: u8) {
+fn write_trailer<const ENTRY: u8>(stored: &mut BlockBytes, data: &BlockBytes, key: Key, trailer_row: u8) {
     let row = trailer(trailer_row);
     if has(row.write_key_a, key) {
         stored[0..6].copy_from_slice(&data[0..6]);
@@ -248,7 +259,7 @@ fn write_trailer<const ENTRY: bool>(stored: &mut BlockBytes, data: &BlockBytes, 
 
 /// The checks of both frames of a value operation; then the source's value.
 #[inline(always)]
-fn source<const ENTRY: bool>(image: &[u8], session: &Session, operation: Operation, block: u8) -> Result<Value, u8> {
+fn source<const ENTRY: u8>(image: &[u8], session: &Session, operation: Operation, block: u8) -> Result<Value, u8> {
     let column = match operation {
         Operation::Increment => INCREMENT,
         Operation::Decrement | Operation::Restore => DECREMENT,
@@ -257,13 +268,13 @@ fn source<const ENTRY: bool>(image: &[u8], session: &Session, operation: Operati
     Value::decode(bytes_of(image, block)).ok_or(8)
 }
 
-fn value_operation<const ENTRY: bool>(image: &[u8], session: &mut Session, operation: Operation, block: u8) -> Judged {
+fn value_operation<const ENTRY: u8>(image: &[u8], session: &mut Session, operation: Operation, block: u8) -> Judged {
     source::<ENTRY>(image, session, operation, block)?;
     session.stage = Stage::Value { operation, block };
     Ok(Sign::Ack)
 }
 
-fn operand<const ENTRY: bool>(image: &[u8], session: &mut Session, operation: Operation, block: u8, frame: &[u8]) -> Judged {
+fn operand<const ENTRY: u8>(image: &[u8], session: &mut Session, operation: Operation, block: u8, frame: &[u8]) -> Judged {
     let operand = i32::from_le_bytes(frame.try_into().map_err(|_| 1)?);
     let Value { number, address } = source::<ENTRY>(image, session, operation, block)?;
     if operand < 0 && operation != Operation::Restore {
@@ -279,7 +290,7 @@ fn operand<const ENTRY: bool>(image: &[u8], session: &mut Session, operation: Op
     Ok(Sign::Nothing)
 }
 
-fn transfer<const ENTRY: bool>(image: &mut [u8], session: &Session, block: u8) -> Judged {
+fn transfer<const ENTRY: u8>(image: &mut [u8], session: &Session, block: u8) -> Judged {
     permitted::<ENTRY>(image, session, block, DECREMENT, true)?;
     let value = session.register.ok_or(9)?;
     *bytes_of_mut(image, block) = value.encode();

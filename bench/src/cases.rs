@@ -1,9 +1,11 @@
 //! The calls that are timed, counted and measured: a ride, each command alone, each refusal, some with their checksum; on a 1K and on a 4K card.
+//! Then the same rides and what is new with a card's record, on an old card and on an EV1.
 
 use crate::calls::Card;
 use crate::card::{Operation, Session, Stage, FRESH, SEALED_BYTES};
 use crate::crc::seal_of;
 use crate::directory::{checksum, place_of, ANNOUNCING, FIRST, SECOND};
+use crate::edition::{of_card, CardBytes, CardRecord, Edition, Usage};
 use crate::layout::{blocks_of, bytes_of_mut, is_trailer, trailer_of, BLOCK_BYTES};
 use crate::reader::Sent;
 use crate::record::{of_session, Record};
@@ -19,12 +21,21 @@ const FULL_PURSE: Value = Value { number: i32::MAX, address: 4 };
 pub struct Case {
     pub name: String,
     pub image: Vec<u8>,
+    /// The card's record, for the calls that take one.
+    card: Option<CardBytes>,
     session: Record,
     sent: Vec<Sent>,
 }
 
 impl Case {
     pub fn send(&self, card: &Card, image: &mut [u8]) {
+        match self.card {
+            None => self.send_plain(card, image),
+            Some(record) => self.send_with(card, record, image),
+        }
+    }
+
+    fn send_plain(&self, card: &Card, image: &mut [u8]) {
         let (mut session, mut reply) = (self.session, [0; SEALED_BYTES]);
         for sent in &self.sent {
             match sent {
@@ -36,12 +47,32 @@ impl Case {
         std::hint::black_box((&session, &reply));
     }
 
-    /// The only call of a case that has one.
-    pub fn only(&self) -> Option<(Record, &Sent)> {
+    fn send_with(&self, card: &Card, mut record: CardBytes, image: &mut [u8]) {
+        let (mut session, mut reply) = (self.session, [0; SEALED_BYTES]);
+        for sent in &self.sent {
+            match sent {
+                Sent::Frame(frame) => card.card_frame(image, &mut record, &mut session, frame, reply.first_chunk_mut().unwrap()),
+                Sent::Sealed(frame) => card.card_sealed_frame(image, &mut record, &mut session, frame, &mut reply),
+                Sent::FieldReset => card.card_reset(&mut record, &mut session, reply.first_chunk_mut().unwrap()),
+            };
+        }
+        std::hint::black_box((&record, &session, &reply));
+    }
+
+    /// The only call of a case that has one, and the records that it starts from.
+    pub fn only(&self) -> Option<(Option<CardBytes>, Record, &Sent)> {
         match &self.sent[..] {
-            [sent] => Some((self.session, sent)),
+            [sent] => Some((self.card, self.session, sent)),
             _ => None,
         }
+    }
+
+    /// The same with a card's record.
+    fn on(mut self, edition: Edition, choice: Option<Usage>) -> Case {
+        let word = if edition == Edition::Ev1 { "EV1" } else { "old" };
+        self.name = format!("{word} {}", self.name);
+        self.card = Some(of_card(&CardRecord { edition, choice }));
+        self
     }
 }
 
@@ -74,7 +105,7 @@ impl Place {
 
     fn case(&self, name: &str, session: Session, frames: &[&[u8]]) -> Case {
         let sent = frames.iter().map(|frame| Sent::Frame(frame.to_vec())).collect();
-        Case { name: self.name(name), image: self.image.clone(), session: of_session(&session), sent }
+        Case { name: self.name(name), image: self.image.clone(), card: None, session: of_session(&session), sent }
     }
 
     fn holder(&self) -> Session {
@@ -156,9 +187,41 @@ impl Place {
     }
 }
 
+/// What an EV1 knows beyond the old card: 40h and its refusals.
+fn personal(place: &Place) -> Vec<Case> {
+    const ASKED: &[u8] = &[0x40, 0x40];
+    let in_sector_0 = Session { authenticated: Some((0, Key::A)), ..place.holder() };
+    let case = |name, session, frame: &[u8], choice| place.case(name, session, &[frame]).on(Edition::Ev1, choice);
+    vec![
+        case("40h", in_sector_0, ASKED, None),
+        case("40h refused 3", place.holder(), ASKED, None),
+        case("40h refused 7", Session { authenticated: Some((0, Key::B)), ..in_sector_0 }, ASKED, None),
+        case("40h refused 17", in_sector_0, &[0x40, 0x41], None),
+        case("40h refused 18", in_sector_0, ASKED, Some(Usage::Uidf1)),
+    ]
+}
+
+/// The calls with a card's record: a ride on either edition; on an EV1 each command, each refusal and 40h.
+fn with_record() -> Vec<Case> {
+    let [small, large] = places();
+    let ev1 = |case: Case| case.on(Edition::Ev1, None);
+    let mut cases: Vec<Case> = [&small, &large].map(|place| place.ride().on(Edition::Old, None)).into();
+    cases.push(ev1(large.ride()));
+    cases.extend(large.commands().into_iter().chain(large.refusals()).map(ev1));
+    cases.push(ev1(small.case("refused 11", small.holder(), &[&[0x30, small.purse]])));
+    cases.extend(personal(&large));
+    cases.extend([&small, &large].map(|place| with_seals(place.ride()).on(Edition::Old, None)));
+    cases.extend(large.sealed().into_iter().map(ev1));
+    cases.extend(personal(&large).into_iter().map(with_seals));
+    cases
+}
+
 /// The same bytes, each frame with its checksum.
 fn with_seals(mut case: Case) -> Case {
-    case.name = format!("sealed {}", case.name);
+    case.name = match case.name.strip_prefix("EV1 ") {
+        Some(name) => format!("EV1 sealed {name}"),
+        None => format!("sealed {}", case.name),
+    };
     for sent in &mut case.sent {
         if let Sent::Frame(frame) = sent {
             *sent = Sent::Sealed([&frame[..], &seal_of(frame)].concat());
@@ -171,14 +234,25 @@ fn places() -> [Place; 2] {
     [Place::new(1024, 1), Place::new(4096, 33)]
 }
 
-/// Scripts of so many rides, by name.
-pub fn ride_scripts(rides: usize) -> Vec<(String, Vec<u8>)> {
+/// A script for an edition's player.
+pub struct Played {
+    pub name: String,
+    pub edition: Edition,
+    pub script: Vec<u8>,
+}
+
+/// Scripts of so many rides.
+pub fn ride_scripts(rides: usize) -> Vec<Played> {
     let script_of = |place: &Place| {
         let ride = place.ride();
         let events: Vec<&Sent> = (0..rides).flat_map(|_| &ride.sent).collect();
-        (place.name("printout of 1,000 events"), scripts::written(&ride.image, events))
+        Played { name: place.name("printout of 1,000 events"), edition: Edition::Old, script: scripts::written(&ride.image, events) }
     };
-    places().iter().map(script_of).collect()
+    let mut all: Vec<Played> = places().iter().map(script_of).collect();
+    let large = all.last().unwrap();
+    let script = [&large.script[..], &scripts::section(None)].concat();
+    all.push(Played { name: format!("EV1 {}", large.name), edition: Edition::Ev1, script });
+    all
 }
 
 pub fn all() -> Vec<Case> {
@@ -187,7 +261,7 @@ pub fn all() -> Vec<Case> {
     let commands = places.iter().flat_map(Place::commands);
     let refusals = places.iter().flat_map(Place::refusals);
     let sealed = places.iter().flat_map(Place::sealed);
-    rides.chain(commands).chain(refusals).chain(sealed).collect()
+    rides.chain(commands).chain(refusals).chain(sealed).chain(with_record()).collect()
 }
 
 /// A number to look up in an image.

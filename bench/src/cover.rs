@@ -12,9 +12,9 @@ use std::collections::BTreeMap;
 /// Each thing that a full run must have met this often.
 pub const ENOUGH: u64 = 100;
 
-const NUMBERS: std::ops::RangeInclusive<u8> = 0..=UNSEALED;
-/// Only a frame with a checksum gets it.
-const UNSEALED: u8 = 14;
+/// The numbers of the old edition. Only a frame with a checksum gets the last.
+pub const NUMBERS: [u8; 15] = [0, 1, 2, 3, 4, 5, 6, 7, 8, 9, 10, 11, 12, 13, UNSEALED];
+pub const UNSEALED: u8 = 14;
 const FIELD_RESET: &str = "field reset";
 const HALT: &str = "Halt";
 const AUTHENTICATE: &str = "Authenticate";
@@ -37,9 +37,9 @@ pub struct Cover {
 const CARELESS: &str = "memory command after a refused Authenticate";
 
 impl Cover {
-    /// Everything that is to be met, met zero times.
-    pub fn new() -> Cover {
-        let things = answers().into_iter().chain(rows()).chain([CARELESS.to_string()]);
+    /// Everything that is to be met, met zero times; among it these numbers.
+    pub fn new(numbers: &[u8]) -> Cover {
+        let things = answers(numbers).into_iter().chain(rows()).chain([CARELESS.to_string()]);
         Cover { met: things.map(|name| (name, 0)).collect(), after_refused_authenticate: false }
     }
 
@@ -125,8 +125,8 @@ impl Cover {
         format!("least met: {}", least.join("; "))
     }
 
-    pub fn thin(&self) -> Vec<String> {
-        self.met.iter().filter(|(_, count)| **count < ENOUGH).map(|(name, count)| format!("{name} {count}")).collect()
+    pub fn thin(&self, enough: u64) -> Vec<String> {
+        self.met.iter().filter(|(_, count)| **count < enough).map(|(name, count)| format!("{name} {count}")).collect()
     }
 
     /// Every group but the rows of the tables, which are many.
@@ -144,10 +144,10 @@ impl Cover {
 }
 
 /// What there is to meet apart from the rows of the tables.
-fn answers() -> Vec<String> {
+fn answers(numbers: &[u8]) -> Vec<String> {
     let mut names = vec![];
-    for number in NUMBERS {
-        names.extend([number_name(number), sealed_name(&number_name(number))]);
+    for number in numbers {
+        names.extend([number_name(*number), sealed_name(&number_name(*number))]);
     }
     for command in ON_DATA.into_iter().chain([AUTHENTICATE, HALT]) {
         names.extend([command_name(command), sealed_name(&format!("{command} accepted"))]);

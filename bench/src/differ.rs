@@ -2,7 +2,10 @@
 
 use crate::calls::{Card, LIBRARY, RUST};
 use crate::card::SealedReply;
-use crate::cover::{self, Cover, ENOUGH};
+use crate::card_cover::{self, CardCover};
+use crate::cards;
+use crate::cover::{self, Cover, ENOUGH, NUMBERS};
+use crate::edition::CardBytes;
 use crate::frames;
 use crate::images;
 use crate::random::Random;
@@ -14,6 +17,12 @@ use crate::turns;
 
 const CALLS_PER_LINE: u64 = 100_000;
 const CALLS_PER_IMAGE: usize = 24;
+/// How many of a hundred images go to the calls with a card's record.
+const RECORD_SHARE: usize = 35;
+/// How many of a hundred forged calls with a record are about Personalize UID Usage.
+const PERSONAL_SHARE: usize = 20;
+/// One call without a record in so many is made again with four zeros for it.
+const CALLS_PER_SHORT_FORM: u64 = 8;
 /// From this many calls on, everything must have been met often enough.
 const FULL_RUN: u64 = 1_000_000;
 /// The ends of the range must have been met in the first calls already.
@@ -22,11 +31,13 @@ const FIRST_CALLS: u64 = 1_000;
 const SHOWN: usize = 40;
 /// Bytes on either side of a lent image, which no card may touch.
 const MARGIN: usize = 16;
+const OLD_CARD: CardBytes = [0; 4];
 
-/// What a card holds and has answered: an image between two margins, a session, the last reply and result.
-#[derive(PartialEq)]
+/// What a card holds and has answered: an image between two margins, a record where the calls take one, a session, the last reply and result.
+#[derive(Clone, PartialEq)]
 struct Side {
     image: Vec<u8>,
+    card: Option<CardBytes>,
     session: Record,
     reply: SealedReply,
     result: u32,
@@ -35,7 +46,7 @@ struct Side {
 impl Side {
     fn new(image: &[u8]) -> Side {
         let margin = [0xA5; MARGIN];
-        Side { image: [&margin, image, &margin].concat(), session: [0; 12], reply: [0; 18], result: 0 }
+        Side { image: [&margin, image, &margin].concat(), card: None, session: [0; 12], reply: [0; 18], result: 0 }
     }
 
     fn image(&self) -> &[u8] {
@@ -46,26 +57,41 @@ impl Side {
         // What is lent to a call without checksum leaves the last two alone.
         self.reply = [0xEE; 18];
         let end = self.image.len() - MARGIN;
-        self.result = match sent {
-            Sent::Frame(frame) => card.frame(&mut self.image[MARGIN..end], &mut self.session, frame, self.reply.first_chunk_mut().unwrap()),
-            Sent::Sealed(frame) => card.sealed_frame(&mut self.image[MARGIN..end], &mut self.session, frame, &mut self.reply),
-            Sent::FieldReset => card.field_reset(&mut self.session, self.reply.first_chunk_mut().unwrap()),
+        let (image, session, reply) = (&mut self.image[MARGIN..end], &mut self.session, &mut self.reply);
+        self.result = match (sent, &mut self.card) {
+            (Sent::Frame(frame), None) => card.frame(image, session, frame, reply.first_chunk_mut().unwrap()),
+            (Sent::Sealed(frame), None) => card.sealed_frame(image, session, frame, reply),
+            (Sent::FieldReset, None) => card.field_reset(session, reply.first_chunk_mut().unwrap()),
+            (Sent::Frame(frame), Some(record)) => card.card_frame(image, record, session, frame, reply.first_chunk_mut().unwrap()),
+            (Sent::Sealed(frame), Some(record)) => card.card_sealed_frame(image, record, session, frame, reply),
+            (Sent::FieldReset, Some(record)) => card.card_reset(record, session, reply.first_chunk_mut().unwrap()),
         };
     }
 
+    /// The same side with another record.
+    fn with(&self, card: Option<CardBytes>) -> Side {
+        Side { card, ..self.clone() }
+    }
+
     fn describe(&self, name: &str) {
-        println!("  {name:8} number {} sign {} session {:02X?} reply {:02X?}", self.result & 0xFF, self.result >> 8, self.session, self.reply);
+        let [number, sign, value, rest] = self.result.to_le_bytes();
+        println!("  {name:8} number {number} sign {sign} value {value} rest {rest} card {:02X?} session {:02X?}", self.card, self.session);
+        println!("  {:8} reply {:02X?}", "", self.reply);
     }
 }
 
 struct Differ {
     random: Random,
+    /// Of the calls without a record, and of those with one.
     cover: Cover,
+    card_cover: CardCover,
     library: Side,
     rust: Side,
     calls: u64,
     /// How many of a hundred frames have a checksum.
     sealed_share: usize,
+    /// How many calls were made again with an old card's record.
+    short_forms: u64,
     ends_met_at_first: bool,
 }
 
@@ -73,9 +99,7 @@ struct Differ {
 pub fn run(seed: u64, count: u64) -> bool {
     let mut differ = Differ::new(seed);
     while differ.calls < count {
-        let image = images::any_size(&mut differ.random);
-        (differ.library, differ.rust) = (Side::new(&image), Side::new(&image));
-        differ.sealed_share = differ.random.pick(&[0, 50, 100]);
+        differ.take_image();
         let same = if differ.random.percent(50) { differ.forged_calls() } else { differ.careless_run() };
         if !same {
             println!("difference at call {} of seed {seed}", differ.calls);
@@ -88,24 +112,66 @@ pub fn run(seed: u64, count: u64) -> bool {
 impl Differ {
     fn new(seed: u64) -> Differ {
         let (library, rust) = (Side::new(&[]), Side::new(&[]));
-        Differ { random: Random::new(seed), cover: Cover::new(), library, rust, calls: 0, sealed_share: 0, ends_met_at_first: false }
+        let (cover, card_cover) = (Cover::new(&NUMBERS), CardCover::new());
+        Differ { random: Random::new(seed), cover, card_cover, library, rust, calls: 0, sealed_share: 0, short_forms: 0, ends_met_at_first: false }
+    }
+
+    /// Another image for both cards, with a record or without.
+    fn take_image(&mut self) {
+        let has_record = self.random.percent(RECORD_SHARE);
+        let image = if has_record { images::mostly_large(&mut self.random) } else { images::any_size(&mut self.random) };
+        (self.library, self.rust) = (Side::new(&image), Side::new(&image));
+        if has_record {
+            let card = cards::any(&mut self.random, &image);
+            self.hold(card);
+        }
+        self.sealed_share = self.random.pick(&[0, 50, 100]);
+    }
+
+    fn hold(&mut self, card: CardBytes) {
+        (self.library.card, self.rust.card) = (Some(card), Some(card));
+    }
+
+    fn has_record(&self) -> bool {
+        self.rust.card.is_some()
     }
 
     fn forged_calls(&mut self) -> bool {
         (0..CALLS_PER_IMAGE).all(|_| {
-            self.cover.start_anew();
-            let session = sessions::forged(&mut self.random, self.rust.image());
-            (self.library.session, self.rust.session) = (session, session);
-            let awaited = sessions::awaited(&session);
-            let frame = frames::any(&mut self.random, self.rust.image(), session[1], awaited);
+            self.start_anew();
+            let is_personal = self.has_record() && self.random.percent(PERSONAL_SHARE);
+            if self.has_record() {
+                let card = cards::any(&mut self.random, self.rust.image());
+                self.hold(card);
+            }
+            let frame = if is_personal { self.personalize() } else { self.forged() };
             let sent = if self.random.percent(1) { Sent::FieldReset } else { Sent::Frame(frame) };
             self.call(sent)
         })
     }
 
-    fn careless_run(&mut self) -> bool {
+    /// A forged session, and a frame for it.
+    fn forged(&mut self) -> Vec<u8> {
+        let session = sessions::forged(&mut self.random, self.rust.image());
+        (self.library.session, self.rust.session) = (session, session);
+        frames::any(&mut self.random, self.rust.image(), session[1], sessions::awaited(&session))
+    }
+
+    fn personalize(&mut self) -> Vec<u8> {
+        let session = sessions::at_sector_0(&mut self.random, self.rust.image());
+        (self.library.session, self.rust.session) = (session, session);
+        frames::personalize(&mut self.random)
+    }
+
+    fn start_anew(&mut self) {
         self.cover.start_anew();
-        let mut reader = Reader::new(&mut self.random, self.rust.image());
+        self.card_cover.commands.start_anew();
+    }
+
+    fn careless_run(&mut self) -> bool {
+        self.start_anew();
+        let (has_record, image) = (self.has_record(), self.rust.image());
+        let mut reader = if has_record { Reader::personalizing(&mut self.random, image) } else { Reader::new(&mut self.random, image) };
         (0..CALLS_PER_IMAGE).all(|_| {
             let sent = reader.send(&mut self.random, self.rust.image());
             self.call(sent)
@@ -128,57 +194,68 @@ impl Differ {
     /// Gives whether both cards did the same.
     fn call(&mut self, sent: Sent) -> bool {
         let sent = &self.on_the_air(sent);
-        let (session, met) = (self.rust.session, self.met(sent));
+        let (card, session, met) = (self.rust.card, self.rust.session, self.met(sent));
+        let short_form = (card.is_none() && self.calls.is_multiple_of(CALLS_PER_SHORT_FORM)).then(|| self.library.with(Some(OLD_CARD)));
         self.library.send(&LIBRARY, sent);
         self.rust.send(&RUST, sent);
         self.calls += 1;
-        if self.library != self.rust {
-            self.describe(&session, sent);
+        let same = self.library == self.rust && short_form.is_none_or(|side| self.is_short_form(side, sent));
+        if !same {
+            self.describe(card, &session, sent);
             return false;
         }
-        self.count(&session, sent, met);
+        self.count(card, &session, sent, met);
         if self.calls.is_multiple_of(CALLS_PER_LINE) {
             println!("{:8} calls, no difference; {}", self.calls, self.cover.line());
         }
         true
     }
 
-    /// Counts what a call was about, which met `session` and was answered.
-    fn count(&mut self, session: &Record, sent: &Sent, met: Option<cover::Met>) {
-        let number = self.rust.result as u8;
-        self.cover.size(self.rust.image().len());
-        match sent {
-            Sent::Frame(frame) | Sent::Sealed(frame) if number == 1 => {
-                let bare = if matches!(sent, Sent::Sealed(_)) { seals::inner(frame) } else { frame };
-                self.cover.length(session, bare);
-            }
-            _ => (),
+    /// Whether the library answers with an old card's record as it did without: `side` is what it had before.
+    fn is_short_form(&mut self, mut side: Side, sent: &Sent) -> bool {
+        side.send(&LIBRARY, sent);
+        self.short_forms += 1;
+        let is_same = side == self.library.with(Some(OLD_CARD));
+        if !is_same {
+            side.describe("with 0000");
+        }
+        is_same
+    }
+
+    /// Counts what a call was about, which met these records and was answered.
+    fn count(&mut self, card: Option<CardBytes>, session: &Record, sent: &Sent, met: Option<cover::Met>) {
+        let (number, image_bytes) = (self.rust.result as u8, self.rust.image().len());
+        let cover = if card.is_some() { &mut self.card_cover.commands } else { &mut self.cover };
+        cover.size(image_bytes);
+        if let (Some(frame), 1) = (bare(sent), number) {
+            cover.length(session, frame);
         }
         match sent {
-            Sent::Frame(_) => self.cover.frame(met, number),
-            Sent::Sealed(frame) => self.cover.sealed(frame, met, number),
-            Sent::FieldReset => self.cover.field_reset(),
+            Sent::Frame(_) => cover.frame(met, number),
+            Sent::Sealed(frame) => cover.sealed(frame, met, number),
+            Sent::FieldReset => cover.field_reset(),
+        }
+        if let Some(card) = card {
+            let (is_sealed, result) = (matches!(sent, Sent::Sealed(_)), self.rust.result);
+            self.card_cover.call(&card_cover::Call { image_bytes, card, session: *session, frame: bare(sent), is_sealed, result });
         }
         if self.calls == FIRST_CALLS {
-            self.ends_met_at_first = turns::ENDS.iter().all(|end| self.cover.has_met(end));
+            let covers = [&self.cover, &self.card_cover.commands];
+            self.ends_met_at_first = turns::ENDS.iter().all(|end| covers.iter().any(|cover| cover.has_met(end)));
         }
     }
 
     fn met(&self, sent: &Sent) -> Option<cover::Met> {
-        match sent {
-            Sent::Frame(frame) => cover::met(self.rust.image(), &self.rust.session, frame),
-            Sent::Sealed(frame) => cover::met(self.rust.image(), &self.rust.session, seals::inner(frame)),
-            Sent::FieldReset => None,
-        }
+        cover::met(self.rust.image(), &self.rust.session, bare(sent)?)
     }
 
-    fn describe(&self, session: &Record, sent: &Sent) {
+    fn describe(&self, card: Option<CardBytes>, session: &Record, sent: &Sent) {
         match sent {
             Sent::Frame(frame) => println!("  frame of {} bytes {:02X?}", frame.len(), &frame[..frame.len().min(SHOWN)]),
             Sent::Sealed(frame) => println!("  sealed frame of {} bytes {:02X?}", frame.len(), &frame[..frame.len().min(SHOWN)]),
             Sent::FieldReset => println!("  field reset"),
         }
-        println!("  image of {} bytes, session {session:02X?}", self.rust.image().len());
+        println!("  image of {} bytes, card {card:02X?}, session {session:02X?}", self.rust.image().len());
         self.library.describe("library");
         self.rust.describe("Rust");
         for (at, (library, rust)) in self.library.image().iter().zip(self.rust.image()).enumerate() {
@@ -190,11 +267,25 @@ impl Differ {
 
     fn report(&self, seed: u64, count: u64) -> bool {
         println!("seed {seed}: {} calls, no difference", self.calls);
+        println!("{} calls without a record were made again with an old card's, and gave the same", self.short_forms);
         self.cover.print_counts();
-        let thin = self.cover.thin();
+        println!("with a card's record:");
+        self.card_cover.print_counts();
+        let (thin, with_record) = (self.cover.thin(ENOUGH), self.card_cover.thin());
         println!("{} of {} things met at least {ENOUGH} times", self.cover.things() - thin.len(), self.cover.things());
-        thin.iter().for_each(|thing| println!("  too seldom: {thing}"));
+        let (things, enough) = (self.card_cover.things(), card_cover::ENOUGH);
+        println!("{} of {things} things met with a record at least {enough} times", things - with_record.len());
+        thin.iter().chain(&with_record).for_each(|thing| println!("  too seldom: {thing}"));
         println!("both ends of the range met in the first {FIRST_CALLS} calls: {}", if self.ends_met_at_first { "yes" } else { "no" });
-        thin.is_empty() && self.ends_met_at_first || count < FULL_RUN
+        thin.is_empty() && with_record.is_empty() && self.ends_met_at_first || count < FULL_RUN
+    }
+}
+
+/// A frame without its checksum; none for a field reset.
+fn bare(sent: &Sent) -> Option<&[u8]> {
+    match sent {
+        Sent::Frame(frame) => Some(frame),
+        Sent::Sealed(frame) => Some(seals::inner(frame)),
+        Sent::FieldReset => None,
     }
 }

@@ -1,5 +1,6 @@
 //! Random frames: each command to each kind of block, second frames, wrong lengths, unknown codes, noise.
 
+use crate::edition::USAGES;
 use crate::images;
 use crate::layout::{blocks_of, bytes_of, has_block, sector_of, sectors, trailer_of, BlockBytes, BLOCK_BYTES};
 use crate::random::Random;
@@ -58,6 +59,13 @@ pub fn small_change(random: &mut Random, image: &[u8]) -> [Vec<u8>; 3] {
     let key = stored_key(image, block, code);
     let data = stored(image, block).map_or([0; BLOCK_BYTES], |bytes| nearly(random, *bytes));
     [[&[code, block], &key[..]].concat(), vec![0xA0, block], data.to_vec()]
+}
+
+/// Personalize UID Usage from an Authenticate on, by a reader who knows the key and has a value in the register by then, where the rights allow.
+pub fn personalize_with_a_value(random: &mut Random, image: &[u8]) -> [Vec<u8>; 4] {
+    let (block, code) = (random.pick(&[1, 2]), random.pick(&[0x60, 0x61]));
+    let key = stored_key(image, block, code);
+    [[&[code, block], &key[..]].concat(), vec![0xC2, block], vec![0; 4], personalize(random)]
 }
 
 /// For a value, often what takes it to the end of the range on its own side of zero, or one further.
@@ -119,12 +127,22 @@ fn stored_key(image: &[u8], block: u8, code: u8) -> [u8; 6] {
     trailer[start..start + 6].try_into().unwrap()
 }
 
+/// Personalize UID Usage, one in four with a type that is none.
+pub fn personalize(random: &mut Random) -> Vec<u8> {
+    let usage = match random.below(8) {
+        0 => random.byte(),
+        1 => random.pick(&[0x01, 0x10, 0x21, 0x42, 0x61, 0x80, 0xA0, 0xC0, 0xE0]),
+        _ => random.pick(&USAGES) as u8,
+    };
+    vec![0x40, usage]
+}
+
 /// A known code at a wrong length, a Halt that is none, an unknown code, or bytes of any length.
 fn noise(random: &mut Random) -> Vec<u8> {
     let mut frame = vec![0; random.pick(&[0, 1, 2, 2, 3, 4, 5, 7, 8, 9, 15, 16, 17, 18, 40, 300])];
     random.fill(&mut frame);
     if random.percent(70) && !frame.is_empty() {
-        frame[0] = random.pick(&[0x60, 0x61, 0x30, 0xA0, 0xC0, 0xC1, 0xC2, 0xB0, 0x50]);
+        frame[0] = random.pick(&[0x60, 0x61, 0x30, 0xA0, 0xC0, 0xC1, 0xC2, 0xB0, 0x50, 0x40, 0x43]);
     }
     frame
 }

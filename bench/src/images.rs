@@ -12,16 +12,34 @@ const TRANSPORT_BITS: [u8; 3] = [0xFF, 0x07, 0x80];
 
 pub fn any_size(random: &mut Random) -> Vec<u8> {
     if random.percent(4) {
-        let mut image = vec![0; random.pick(&WRONG_SIZES)];
-        random.fill(&mut image);
-        image
+        wrong_size(random)
     } else {
         right_size(random)
     }
 }
 
+fn wrong_size(random: &mut Random) -> Vec<u8> {
+    let mut image = vec![0; random.pick(&WRONG_SIZES)];
+    random.fill(&mut image);
+    image
+}
+
+/// For a call with a card's record: large in most, since an EV1 is.
+pub fn mostly_large(random: &mut Random) -> Vec<u8> {
+    match random.below(100) {
+        0..=3 => wrong_size(random),
+        4..=23 => of_size(random, 1024),
+        _ => of_size(random, 4096),
+    }
+}
+
 pub fn right_size(random: &mut Random) -> Vec<u8> {
-    let mut image = vec![0; random.pick(&RIGHT_SIZES)];
+    let bytes = random.pick(&RIGHT_SIZES);
+    of_size(random, bytes)
+}
+
+pub fn of_size(random: &mut Random, bytes: usize) -> Vec<u8> {
+    let mut image = vec![0; bytes];
     for block in 0..image.len() / BLOCK_BYTES {
         let block = block as u8;
         *bytes_of_mut(&mut image, block) = if is_trailer(block) { trailer(random) } else { data(random) };

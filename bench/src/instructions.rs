@@ -22,18 +22,19 @@ pub fn count(card: &Card) {
     }
 }
 
+/// The calls of the library, by what stands behind `tirlwheel_`; the Rust card's begin with `rust_`.
+const CALLS: [&str; 10] =
+    ["frame", "sealed_frame", "field_reset", "card_frame", "card_sealed_frame", "card_reset", "play", "play_ev1", "lookup", "mend"];
+
 /// Instructions for each case, on the library and on the Rust card.
 pub fn of_both() -> Vec<(f64, f64)> {
-    let of_library = counted(
-        "library",
-        &["tirlwheel_frame", "tirlwheel_sealed_frame", "tirlwheel_field_reset", "tirlwheel_play", "tirlwheel_lookup", "tirlwheel_mend"],
-    );
-    let of_rust = counted("rust", &["*rust_frame*", "*rust_sealed_frame*", "*rust_field_reset*", "*rust_play*", "*rust_lookup*", "*rust_mend*"]);
+    let of_library = counted("library", CALLS.map(|call| format!("tirlwheel_{call}")));
+    let of_rust = counted("rust", CALLS.map(|call| format!("*::rust_{call}*")));
     of_library.into_iter().zip(of_rust).collect()
 }
 
 /// Runs this program again under callgrind, which counts inside the named functions alone.
-fn counted(card: &str, functions: &[&str]) -> Vec<f64> {
+fn counted<const N: usize>(card: &str, functions: [String; N]) -> Vec<f64> {
     let folder = std::env::temp_dir().join(format!("tirlwheel-count-{card}-{}", std::process::id()));
     fs::create_dir_all(&folder).expect("a temporary folder");
     let status = Command::new("valgrind")

@@ -28,6 +28,16 @@ pub fn forged(random: &mut Random, image: &[u8]) -> Record {
     record
 }
 
+/// A record for a frame about sector 0: of somebody who is authenticated there and is awaited for nothing, in most.
+pub fn at_sector_0(random: &mut Random, image: &[u8]) -> Record {
+    if random.percent(15) {
+        return forged(random, image);
+    }
+    let mut record = authenticated(random, image, 0);
+    record[1] = 0;
+    record
+}
+
 /// A record whose key has the right to what its second frame is about, unless the image hides such blocks well.
 fn hopeful(random: &mut Random, image: &[u8]) -> Record {
     let stage = random.pick(&[1, 2, 2, 2, 3, 3, 3, 4]);

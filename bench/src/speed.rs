@@ -1,12 +1,14 @@
 //! Times and instructions of each case on both cards, in one run.
 
-use crate::calls::{Card, LIBRARY, PRINTOUT_BYTES, RUST};
+use crate::calls::{Card, Printout, LIBRARY, RUST};
 use crate::card::SealedReply;
-use crate::cases::{self, Case, Lookup, Mending};
+use crate::cases::{self, Case, Lookup, Mending, Played};
+use crate::edition::CardBytes;
 use crate::instructions;
 use crate::layout::BlockBytes;
 use crate::mending::{Report, REPORT_BYTES};
 use crate::record::Record;
+use crate::scripts;
 use std::time::Instant;
 
 /// All work is done once in each round, so that a busy second of the machine does not fall on one piece of work alone.
@@ -24,7 +26,11 @@ const NOTHING: Card = Card {
     frame_call: no_frame,
     sealed_frame_call: no_sealed_frame,
     field_reset_call: no_reset,
+    card_frame_call: no_card_frame,
+    card_sealed_frame_call: no_card_sealed_frame,
+    card_reset_call: no_card_reset,
     play_call: no_play,
+    play_ev1_call: no_play,
     lookup_call: no_lookup,
     mend_call: no_mend,
 };
@@ -41,7 +47,27 @@ unsafe extern "C" fn no_reset(_: *mut Record, _: *mut BlockBytes) -> u32 {
     0
 }
 
-unsafe extern "C" fn no_play(_: *const u8, _: usize, _: *mut [u8; PRINTOUT_BYTES]) -> usize {
+unsafe extern "C" fn no_card_frame(_: *mut u8, _: usize, _: *mut CardBytes, _: *mut Record, _: *const u8, _: usize, _: *mut BlockBytes) -> u32 {
+    0
+}
+
+unsafe extern "C" fn no_card_sealed_frame(
+    _: *mut u8,
+    _: usize,
+    _: *mut CardBytes,
+    _: *mut Record,
+    _: *const u8,
+    _: usize,
+    _: *mut SealedReply,
+) -> u32 {
+    0
+}
+
+unsafe extern "C" fn no_card_reset(_: *mut CardBytes, _: *mut Record, _: *mut BlockBytes) -> u32 {
+    0
+}
+
+unsafe extern "C" fn no_play(_: *const u8, _: usize, _: *mut Printout) -> usize {
     0
 }
 
@@ -66,10 +92,10 @@ impl Work {
         Work { name: case.name.clone(), times: CALLS_PER_ROUND, send: Box::new(move |card| case.send(card, &mut image)) }
     }
 
-    fn of_script(name: String, script: Vec<u8>) -> Work {
-        let mut printout: Box<[u8; PRINTOUT_BYTES]> = vec![0; PRINTOUT_BYTES].try_into().unwrap();
+    fn of_script(Played { name, edition, script }: Played) -> Work {
+        let mut printout = scripts::blank_printout();
         let send = move |card: &Card| {
-            std::hint::black_box(card.play(&script, &mut printout));
+            std::hint::black_box(card.play(edition, &script, &mut printout));
         };
         Work { name, times: PLAYS_PER_ROUND, send: Box::new(send) }
     }
@@ -114,7 +140,7 @@ impl Work {
 
 pub fn works() -> Vec<Work> {
     let cases = cases::all().into_iter().map(Work::of_case);
-    let scripts = cases::ride_scripts(RIDES).into_iter().map(|(name, script)| Work::of_script(name, script));
+    let scripts = cases::ride_scripts(RIDES).into_iter().map(Work::of_script);
     let lookups = cases::lookups().into_iter().map(Work::of_lookup);
     let mendings = cases::mendings().into_iter().map(Work::of_mending);
     cases.chain(scripts).chain(lookups).chain(mendings).collect()
@@ -148,13 +174,25 @@ pub fn print_table() {
     for _ in 0..ROUNDS {
         works.iter_mut().zip(&mut times).for_each(|(work, least)| work.time_once(least));
     }
-    let mut dear = [Dear::new("bare frames"), Dear::new("frames with their checksum"), Dear::new("lookups"), Dear::new("mendings")];
+    let mut dear = ENTRIES.map(|(_, entry)| Dear::new(entry));
     for ((work, times), counted) in works.iter().zip(times).zip(counted) {
-        let entry = ["sealed", "lookup", "mend"].iter().position(|word| work.name.starts_with(word)).map_or(0, |place| place + 1);
+        let entry = ENTRIES.iter().position(|(start, _)| work.name.starts_with(start)).unwrap();
         dear[entry].add(print_line(work, times, counted));
     }
     dear.iter().for_each(Dear::print);
 }
+
+/// How the names of lines begin, and of which entry they are; the last takes the rest.
+const ENTRIES: [(&str, &str); 8] = [
+    ("sealed", "frames with their checksum"),
+    ("lookup", "lookups"),
+    ("mend", "mendings"),
+    ("EV1 sealed", "frames with their checksum on an EV1"),
+    ("EV1", "bare frames on an EV1"),
+    ("old sealed", "frames with their checksum and an old card's record"),
+    ("old", "bare frames with an old card's record"),
+    ("", "bare frames"),
+];
 
 /// How many lines of an entry miss the goal.
 struct Dear {

@@ -2,7 +2,7 @@
 
 use crate::calls::{Card, LIBRARY, PRINTOUT_BYTES, RUST};
 use crate::card::SEALED_BYTES;
-use crate::cases::{self, Case, Lookup, Mending};
+use crate::cases::{self, Case, Lookup, Mending, Played};
 use crate::mending::REPORT_BYTES;
 use crate::reader::Sent;
 use crate::speed::RIDES;
@@ -13,12 +13,18 @@ const STACK_BYTES: usize = 256 * 1024;
 #[repr(align(64))]
 struct Stack([u8; STACK_BYTES]);
 
-/// Calls a C function of at most six whole numbers or pointers on the given stack.
+/// Calls a C function of at most seven whole numbers or pointers on the given stack. The seventh lies on it, and counts.
 ///
 /// # Safety
 /// The arguments must be those that the function expects, and the stack deep enough.
-unsafe fn call_on(stack: &mut Stack, function: *const (), arguments: [usize; 6]) {
-    let top = stack.0.as_mut_ptr().add(STACK_BYTES);
+unsafe fn call_on(stack: &mut Stack, function: *const (), arguments: &[usize]) {
+    let mut top = stack.0.as_mut_ptr().add(STACK_BYTES);
+    if let Some(seventh) = arguments.get(6) {
+        // The stack stays aligned to sixteen bytes.
+        top = top.sub(16);
+        top.cast::<usize>().write(*seventh);
+    }
+    let argument = |place: usize| arguments.get(place).copied().unwrap_or(0);
     asm!(
         "mov r12, rsp",
         "mov rsp, {top}",
@@ -26,12 +32,12 @@ unsafe fn call_on(stack: &mut Stack, function: *const (), arguments: [usize; 6])
         "mov rsp, r12",
         top = in(reg) top,
         function = in(reg) function,
-        in("rdi") arguments[0],
-        in("rsi") arguments[1],
-        in("rdx") arguments[2],
-        in("rcx") arguments[3],
-        in("r8") arguments[4],
-        in("r9") arguments[5],
+        in("rdi") argument(0),
+        in("rsi") argument(1),
+        in("rdx") argument(2),
+        in("rcx") argument(3),
+        in("r8") argument(4),
+        in("r9") argument(5),
         out("r12") _,
         clobber_abi("C"),
     );
@@ -49,40 +55,50 @@ fn depth(stack: &mut Stack, mut call: impl FnMut(&mut Stack)) -> usize {
 }
 
 fn of_case(stack: &mut Stack, card: &Card, case: &Case) -> Option<usize> {
-    let (start, sent) = case.only()?;
+    let (record, start, sent) = case.only()?;
     let mut image = case.image.clone();
     Some(depth(stack, |stack| {
-        let (mut session, mut reply) = (start, [0u8; SEALED_BYTES]);
-        let (session, reply) = (session.as_mut_ptr() as usize, reply.as_mut_ptr() as usize);
-        let (function, arguments) = match sent {
-            Sent::Frame(frame) => (card.frame_call as *const (), of_frame(&mut image, session, frame, reply)),
-            Sent::Sealed(frame) => (card.sealed_frame_call as *const (), of_frame(&mut image, session, frame, reply)),
-            Sent::FieldReset => (card.field_reset_call as *const (), [session, reply, 0, 0, 0, 0]),
-        };
+        let (mut record, mut session, mut reply) = (record, start, [0u8; SEALED_BYTES]);
+        let function = function_of(card, sent, record.is_some());
+        let mut arguments = vec![session.as_mut_ptr() as usize];
+        if let Some(record) = &mut record {
+            arguments.insert(0, record.as_mut_ptr() as usize);
+        }
+        if let Sent::Frame(frame) | Sent::Sealed(frame) = sent {
+            arguments.splice(0..0, [image.as_mut_ptr() as usize, image.len()]);
+            arguments.extend([frame.as_ptr() as usize, frame.len()]);
+        }
+        arguments.push(reply.as_mut_ptr() as usize);
         // SAFETY: the arguments are those of include/tirlwheel.h, with true lengths.
-        unsafe { call_on(stack, function, arguments) }
+        unsafe { call_on(stack, function, &arguments) }
     }))
 }
 
-/// The arguments of both calls for a frame.
-fn of_frame(image: &mut [u8], session: usize, frame: &[u8], reply: usize) -> [usize; 6] {
-    [image.as_mut_ptr() as usize, image.len(), session, frame.as_ptr() as usize, frame.len(), reply]
+fn function_of(card: &Card, sent: &Sent, has_record: bool) -> *const () {
+    match (sent, has_record) {
+        (Sent::Frame(_), false) => card.frame_call as *const (),
+        (Sent::Sealed(_), false) => card.sealed_frame_call as *const (),
+        (Sent::FieldReset, false) => card.field_reset_call as *const (),
+        (Sent::Frame(_), true) => card.card_frame_call as *const (),
+        (Sent::Sealed(_), true) => card.card_sealed_frame_call as *const (),
+        (Sent::FieldReset, true) => card.card_reset_call as *const (),
+    }
 }
 
-fn of_play(stack: &mut Stack, card: &Card, script: &[u8]) -> usize {
+fn of_play(stack: &mut Stack, card: &Card, Played { edition, script, .. }: &Played) -> usize {
     let mut printout = vec![0u8; PRINTOUT_BYTES];
     depth(stack, |stack| {
-        let arguments = [script.as_ptr() as usize, script.len(), printout.as_mut_ptr() as usize, 0, 0, 0];
+        let arguments = [script.as_ptr() as usize, script.len(), printout.as_mut_ptr() as usize];
         // SAFETY: as above.
-        unsafe { call_on(stack, card.play_call as *const (), arguments) }
+        unsafe { call_on(stack, card.player(*edition) as *const (), &arguments) }
     })
 }
 
 fn of_lookup(stack: &mut Stack, card: &Card, lookup: &Lookup) -> usize {
     depth(stack, |stack| {
-        let arguments = [lookup.image.as_ptr() as usize, lookup.image.len(), lookup.application as usize, 0, 0, 0];
+        let arguments = [lookup.image.as_ptr() as usize, lookup.image.len(), lookup.application as usize];
         // SAFETY: as above.
-        unsafe { call_on(stack, card.lookup_call as *const (), arguments) }
+        unsafe { call_on(stack, card.lookup_call as *const (), &arguments) }
     })
 }
 
@@ -90,9 +106,9 @@ fn of_mending(stack: &mut Stack, card: &Card, mending: &Mending) -> usize {
     let (mut image, mut report) = (mending.image.clone(), [0u8; REPORT_BYTES]);
     depth(stack, |stack| {
         let (names, report) = (&mending.names, report.as_mut_ptr() as usize);
-        let arguments = [image.as_mut_ptr() as usize, image.len(), names.as_ptr() as usize, names.len(), report, 0];
+        let arguments = [image.as_mut_ptr() as usize, image.len(), names.as_ptr() as usize, names.len(), report];
         // SAFETY: as above.
-        unsafe { call_on(stack, card.mend_call as *const (), arguments) }
+        unsafe { call_on(stack, card.mend_call as *const (), &arguments) }
     })
 }
 
@@ -104,9 +120,9 @@ pub fn print_table() {
             println!("{:36} {library:8} {rust:8}", case.name);
         }
     }
-    for (name, script) in cases::ride_scripts(RIDES) {
-        let (library, rust) = (of_play(&mut stack, &LIBRARY, &script), of_play(&mut stack, &RUST, &script));
-        println!("{name:36} {library:8} {rust:8}");
+    for played in cases::ride_scripts(RIDES) {
+        let (library, rust) = (of_play(&mut stack, &LIBRARY, &played), of_play(&mut stack, &RUST, &played));
+        println!("{:36} {library:8} {rust:8}", played.name);
     }
     for lookup in cases::lookups() {
         let (library, rust) = (of_lookup(&mut stack, &LIBRARY, &lookup), of_lookup(&mut stack, &RUST, &lookup));

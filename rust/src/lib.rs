@@ -1,6 +1,7 @@
 //! A MIFARE Classic card in software: safe calls of the proved library.
 //!
-//! The card keeps nothing. The caller owns the image and one [`Session`], and lends both to each call.
+//! The card keeps nothing. The caller owns the image, its [`Card`] record and one [`Session`], and lends them to each call.
+//! [`Session::card_frame`] takes a card of either edition; [`Session::frame`] is the short form for an old one.
 //! `include/tirlwheel.h` says what each number means.
 #![no_std]
 
@@ -24,6 +25,34 @@ mod ffi {
             reply: *mut [u8; 18],
         ) -> u32;
         pub fn tirlwheel_field_reset(session: *mut [u8; 12], reply: *mut [u8; 16]) -> u32;
+        pub fn tirlwheel_card_frame(
+            image: *mut u8,
+            image_len: usize,
+            card: *mut [u8; 4],
+            session: *mut [u8; 12],
+            frame: *const u8,
+            frame_len: usize,
+            reply: *mut [u8; 16],
+        ) -> u32;
+        pub fn tirlwheel_card_sealed_frame(
+            image: *mut u8,
+            image_len: usize,
+            card: *mut [u8; 4],
+            session: *mut [u8; 12],
+            frame: *const u8,
+            frame_len: usize,
+            reply: *mut [u8; 18],
+        ) -> u32;
+        pub fn tirlwheel_card_reset(
+            card: *mut [u8; 4],
+            session: *mut [u8; 12],
+            reply: *mut [u8; 16],
+        ) -> u32;
+        pub fn tirlwheel_play_ev1(
+            script: *const u8,
+            script_len: usize,
+            printout: *mut [u8; 65536],
+        ) -> usize;
         pub fn tirlwheel_play(
             script: *const u8,
             script_len: usize,
@@ -44,6 +73,9 @@ mod ffi {
 /// The session of a reader, as its record of twelve bytes.
 #[derive(Clone, Copy, Debug, Default, PartialEq, Eq)]
 pub struct Session(pub [u8; 12]);
+
+mod card;
+pub use card::{Card, Choice, Edition, Nak, Usage};
 
 /// What went on the air.
 #[derive(Clone, Copy, Debug, PartialEq, Eq)]
@@ -67,6 +99,24 @@ pub struct Answer {
 pub struct SealedAnswer {
     pub number: u8,
     pub sign: Sign,
+    pub reply: [u8; 18],
+}
+
+/// As [`Answer`], of a card with its record, and the value of an EV1's NAK where there is one.
+#[derive(Clone, Copy, Debug, PartialEq, Eq)]
+pub struct CardAnswer {
+    pub number: u8,
+    pub sign: Sign,
+    pub nak: Option<Nak>,
+    pub reply: [u8; 16],
+}
+
+/// As [`CardAnswer`], for a frame with its checksum.
+#[derive(Clone, Copy, Debug, PartialEq, Eq)]
+pub struct SealedCardAnswer {
+    pub number: u8,
+    pub sign: Sign,
+    pub nak: Option<Nak>,
     pub reply: [u8; 18],
 }
 
@@ -106,7 +156,7 @@ impl Report {
 pub type Printout = [u8; 65536];
 
 fn sign(result: u32) -> Sign {
-    match result >> 8 {
+    match result >> 8 & 0xFF {
         0 => Sign::Ack,
         1 => Sign::Nak,
         2 => Sign::Data,
@@ -126,7 +176,8 @@ impl Session {
     /// Nobody authenticated, no second frame awaited, the register empty.
     pub const FRESH: Session = Session([0; 12]);
 
-    /// One frame. The session and the image are afterwards those that the next frame meets.
+    /// One frame to an old card: the short form of [`Session::card_frame`]. The session and the image are afterwards those that the
+    /// next frame meets.
     pub fn frame(&mut self, image: &mut [u8], frame: &[u8]) -> Answer {
         let mut reply = [0; 16];
         // SAFETY: each pointer comes from a reference or a slice of that length; exclusive references do not overlap anything.
@@ -143,7 +194,8 @@ impl Session {
         answer(result, reply)
     }
 
-    /// One frame with its checksum behind it, as a reader chip hands it over; else as [`Session::frame`], and both may be sent in turn.
+    /// One frame with its checksum behind it, as a reader chip hands it over, to an old card: the short form of
+    /// [`Session::card_sealed_frame`]. It and [`Session::frame`] may be sent in turn.
     pub fn sealed_frame(&mut self, image: &mut [u8], frame: &[u8]) -> SealedAnswer {
         let mut reply = [0; 18];
         // SAFETY: as for a frame.
@@ -164,7 +216,101 @@ impl Session {
         }
     }
 
-    /// The reader's field went away and came back.
+    /// One frame to a card with its record. The session, the record and the image are afterwards those that the next frame meets.
+    pub fn card_frame(&mut self, image: &mut [u8], card: &mut Card, frame: &[u8]) -> CardAnswer {
+        let mut bytes = card.bytes();
+        let (result, reply) = self.card_frame_bytes(image, &mut bytes, frame);
+        card.take(bytes);
+        CardAnswer {
+            number: result as u8,
+            sign: sign(result),
+            nak: Nak::of(*card, result),
+            reply,
+        }
+    }
+
+    /// The same with the record as four bytes, which need not be one: such bytes stand for no card, 11, and stay as they were.
+    /// The result has number, sign and the value of a NAK, from the low byte on.
+    pub fn card_frame_bytes(
+        &mut self,
+        image: &mut [u8],
+        card: &mut [u8; 4],
+        frame: &[u8],
+    ) -> (u32, [u8; 16]) {
+        let mut reply = [0; 16];
+        // SAFETY: as for a frame.
+        let result = unsafe {
+            ffi::tirlwheel_card_frame(
+                image.as_mut_ptr(),
+                image.len(),
+                card,
+                &mut self.0,
+                frame.as_ptr(),
+                frame.len(),
+                &mut reply,
+            )
+        };
+        (result, reply)
+    }
+
+    /// One frame with its checksum behind it to a card with its record; else as [`Session::card_frame`], and both may be sent in turn.
+    pub fn card_sealed_frame(
+        &mut self,
+        image: &mut [u8],
+        card: &mut Card,
+        frame: &[u8],
+    ) -> SealedCardAnswer {
+        let mut bytes = card.bytes();
+        let (result, reply) = self.card_sealed_frame_bytes(image, &mut bytes, frame);
+        card.take(bytes);
+        SealedCardAnswer {
+            number: result as u8,
+            sign: sign(result),
+            nak: Nak::of(*card, result),
+            reply,
+        }
+    }
+
+    /// The same with the record as four bytes, as [`Session::card_frame_bytes`].
+    pub fn card_sealed_frame_bytes(
+        &mut self,
+        image: &mut [u8],
+        card: &mut [u8; 4],
+        frame: &[u8],
+    ) -> (u32, [u8; 18]) {
+        let mut reply = [0; 18];
+        // SAFETY: as for a frame.
+        let result = unsafe {
+            ffi::tirlwheel_card_sealed_frame(
+                image.as_mut_ptr(),
+                image.len(),
+                card,
+                &mut self.0,
+                frame.as_ptr(),
+                frame.len(),
+                &mut reply,
+            )
+        };
+        (result, reply)
+    }
+
+    /// The reader's field went away and came back, before a card with its record, which stays as it is.
+    pub fn card_reset(&mut self, card: &mut Card) -> Answer {
+        let mut bytes = card.bytes();
+        let answer = self.card_reset_bytes(&mut bytes);
+        card.take(bytes);
+        answer
+    }
+
+    /// The same with the record as four bytes, which need not be one; they stay as they are.
+    pub fn card_reset_bytes(&mut self, card: &mut [u8; 4]) -> Answer {
+        let mut reply = [0; 16];
+        // SAFETY: as for a frame.
+        let result = unsafe { ffi::tirlwheel_card_reset(card, &mut self.0, &mut reply) };
+        answer(result, reply)
+    }
+
+    /// The reader's field went away and came back, before an old card: the short form of [`Session::card_reset`].
     pub fn field_reset(&mut self) -> Answer {
         let mut reply = [0; 16];
         // SAFETY: as for a frame.
@@ -180,7 +326,15 @@ pub fn play<'a>(script: &[u8], printout: &'a mut Printout) -> &'a [u8] {
     &printout[..length]
 }
 
-/// Which sector of an image is an application's. The image is read as it stands, without a session.
+/// The printout of an EV1's script, in the buffer that is lent for it.
+pub fn play_ev1<'a>(script: &[u8], printout: &'a mut Printout) -> &'a [u8] {
+    // SAFETY: as for a frame.
+    let length = unsafe { ffi::tirlwheel_play_ev1(script.as_ptr(), script.len(), printout) };
+    &printout[..length]
+}
+
+/// Which sector of an image is an application's. The image is read as it stands, without a session
+/// or a record.
 pub fn lookup(image: &[u8], application: u32) -> Lookup {
     // SAFETY: the pointer comes from a slice of that length.
     let result = unsafe { ffi::tirlwheel_lookup(image.as_ptr(), image.len(), application) };

@@ -151,5 +151,5 @@ fn the_sample_is_printed() {
 
 #[test]
 fn the_boundary_has_a_number() {
-    assert_eq!(version(), 3);
+    assert_eq!(version(), 4);
 }

@@ -1,4 +1,4 @@
--- The machine values of a session and of an answer, as the two walks need them.
+-- The machine values of a session, of a record and of an answer, as the walks need them.
 -- Assumes nothing.
 use mathlib.Core.List.{[], _∷_}
 use mir.Val.{Val}
@@ -8,6 +8,9 @@ use Rattle.session.specs.declared.Session.{Session}
 use Rattle.card.specs.declared.Answer.{Answer}
 use Rattle.session.proofs.Session as S
 use Rattle.session.proofs.Session.Laws as S′
+use Rattle.edition.specs.declared.CardRecord.{CardRecord}
+use Rattle.edition.proofs.CardRecord as K
+use Rattle.edition.proofs.CardRecord.Laws as K′
 use Rattle.card.proofs.Answer as R
 use Rattle.card.proofs.Answer.Laws as R′
 
@@ -23,3 +26,7 @@ is-answer r w is = LL.owes R.the-type R′.the-laws r (LL.owed R.the-type R′.t
 
 pub has-session : (r : Answer) (w : Val) → Is R.the-row r (w ∷ []) → Is S.the-row (r .session) (machS (r .session) ∷ [])
 has-session r w is = LL.owed R.the-type R′.the-laws r (w ∷ []) is .1 .1 .1 .0
+
+-- the machine value of a card's record
+abbrev pub machK : CardRecord → Val
+machK = LL.val K.the-type K′.the-laws

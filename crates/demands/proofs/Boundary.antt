@@ -24,18 +24,23 @@ use Rattle.judge.specs.declared.Act.the-variants.{Refused, Authenticated, Shown
 use Rattle.card.specs.Effects.{packedOf, sessionOf}
 use Rattle.record.specs.Record.{valueBits, recordOf, sessionFrom}
 use Rattle.record.proofs.Laws.{reads-back, from-small}
+use Rattle.edition.specs.Edition.{oldCard}
+use Rattle.edition.specs.declared.CardRecord.{CardRecord}
+use Rattle.either.proofs.Laws.{old-card}
+use Rattle.either.proofs.Sealed.{old-sealed}
 use Rattle.script.specs.Script.{Reading, lawful, readingOf}
+use Rattle.script.specs.Lock.{ev1ReadingOf}
 use Rattle.runs.specs.Run.{State, begin, Sent, reset, bare, sealed, answerTo, imageUpon, after, runOf, frameIn, actOf, acted}
 use Rattle.laws.specs.Accepted.{Accepted}
 use Rattle.runs.proofs.Laws.{after-acts}
 use Rattle.laws.proofs.Keeps.{behind}
 use Rattle.play.specs.Text.{putOf}
-use Rattle.play.specs.Run.{sentOf, eventsIn}
-use Rattle.play.specs.Printout.{playedOf, printed, printoutOf}
+use Rattle.play.specs.Run.{sentOf, eventsIn, ev1CardOf}
+use Rattle.play.specs.Printout.{playedOf, printed, printoutOf, ev1PrintoutOf}
 use Rattle.demands.specs.Demand1.{Row, table, asked, noReply, Met}
 use Rattle.demands.specs.Boundary.{Lent, stateOf, lentOf, Given, given, BoundaryDemand1, ZerosAreFresh, RegisterFits, callsOf, CallsAreTheRun}
 use Rattle.demands.proofs.Demand1.{demand-1}
-use Rattle.demands.proofs.OneEdge.{FrameMeets, SealedMeets, ResetMeets, PlayMeets}
+use Rattle.demands.proofs.OneEdge.{FrameMeets, SealedMeets, ResetMeets, PlayMeets, PlayEv1Meets}
 
 pub zeros-are-fresh : ZerosAreFresh
 unfolding recordOf
@@ -56,10 +61,10 @@ unfolding decodeOf
 reads block e = rw e
 
 -- the register of a state has 32 bits, and keeps them
-abbrev Small : State → Type 0
+abbrev pub Small : State → Type 0
 Small st = valueBits (st .session .register) < 4294967296
 
-small-act : (st : State) (frame : List ℕ) (act : Act) → Accepted (st .image) (st .session) frame act → Small st → Small (acted st frame act)
+small-act : (st : State) (frame : List ℕ) (act : Act) → Accepted (st .image) (st .session) frame act → Small st → Small (acted (st .card) st frame act)
 unfolding sessionOf
 small-act st frame (Refused n) a h = omega arith
 small-act st frame (Authenticated t l) a h = omega arith
@@ -75,7 +80,7 @@ small-act st frame (Loaded v d) a h =
 small-act st frame (Moved b v d) a h = h
 small-act st frame Halted a h = omega arith
 
-small-after : (st : State) (e : Sent) → Small st → Small (after st e)
+pub small-after : (st : State) (e : Sent) → Small st → Small (after st e)
 small-after st e h = rw (after-acts st e) (small-act st (frameIn e) (actOf st e) (behind st e) h)
 
 pub register-fits : (l : Lent) (e : Sent) → RegisterFits l e
@@ -93,25 +98,33 @@ boundary-demand-1 l e =
     record {
       refuses = refuses;
       alone = λ h.
-          let m = d .alone (λ z. h (let w : answerTo (stateOf l) e .number ≡ 0 = z in omega arith)) in
+          let m = d .alone (λ z. h (let w : answerTo (stateOf l) e .answer .number ≡ 0 = z in omega arith)) in
           (m .0, m .1, ap (λ (g : Given). g .result) (refuses (m .0) (m .1)));
     }
 
--- a session crosses as twelve bytes and comes back
-crosses : (st : State) → Small st → stateOf (lentOf st) ≡ st
-crosses st h = ap (λ (s : Session). record { image = st .image; session = s }) (reads-back (st .session) h)
+-- a session crosses as twelve bytes and comes back; an old card has no record to lend
+crosses : (st : State) → st .card ≡ oldCard → Small st → stateOf (lentOf st) ≡ st
+crosses st o h = ap (λ (s : Session). record { card = oldCard; image = st .image; session = s }) (reads-back (st .session) h) ∙ ap (λ (k : CardRecord). record { card = k; image = st .image; session = st .session }) (sym o)
 
-calls-run : (st : State) (events : List Sent) → Small st → (callsOf (lentOf st) events ≡ lentOf (runOf st events)) × Small (runOf st events)
+-- and stays one
+old-stays : (st : State) (e : Sent) → st .card ≡ oldCard → answerTo st e .card ≡ oldCard
+unfolding answerTo
+old-stays st reset o = o
+old-stays st (bare frame) o = rw (old-card (st .image) (st .card) (st .session) frame (ap (λ (k : CardRecord). k .edition) o) .0) o
+old-stays st (sealed frame) o = rw (old-sealed (st .image) (st .card) (st .session) frame (ap (λ (k : CardRecord). k .edition) o) .0) o
+
+calls-run : (st : State) (events : List Sent) → st .card ≡ oldCard → Small st → (callsOf (lentOf st) events ≡ lentOf (runOf st events)) × (runOf st events .card ≡ oldCard) × Small (runOf st events)
 unfolding callsOf runOf after
-calls-run st [] h = (refl, h)
-calls-run st (e ∷ es) h = rw (crosses st h) (calls-run (after st e) es (small-after st e h))
+calls-run st [] o h = (refl, o, h)
+calls-run st (e ∷ es) o h = rw (crosses st o h) (calls-run (after st e) es (old-stays st e o) (small-after st e h))
 
 pub calls-are-the-run : CallsAreTheRun
 calls-are-the-run image past e =
-    let r : (callsOf (lentOf (begin image)) past ≡ lentOf (runOf (begin image) past)) × Small (runOf (begin image) past) = calls-run (begin image) past (omega arith) in
-    let zero : lentOf (begin image) ≡ record { image = image; bytes = replicate 12 0 } = rw (zeros-are-fresh .1) in
-    let left : callsOf (record { image = image; bytes = replicate 12 0 }) past ≡ lentOf (runOf (begin image) past) = ap (λ (l : Lent). callsOf l past) (sym zero) ∙ r .0 in
-    (left, rw (left, crosses (runOf (begin image) past) (r .1)))
+    let r : (callsOf (lentOf (begin oldCard image)) past ≡ lentOf (runOf (begin oldCard image) past)) × (runOf (begin oldCard image) past .card ≡ oldCard) × Small (runOf (begin oldCard image) past) =
+    calls-run (begin oldCard image) past refl (omega arith) in
+    let zero : lentOf (begin oldCard image) ≡ record { image = image; bytes = replicate 12 0 } = rw (zeros-are-fresh .1) in
+    let left : callsOf (record { image = image; bytes = replicate 12 0 }) past ≡ lentOf (runOf (begin oldCard image) past) = ap (λ (l : Lent). callsOf l past) (sym zero) ∙ r .0 in
+    (left, rw (left, crosses (runOf (begin oldCard image) past) (r .1) (r .2)))
 
 -- what a call gave, put together
 abbrev gave : ℕ → List ℕ → List ℕ → List ℕ → Given
@@ -121,12 +134,12 @@ gave r i s p = record { result = r; reply = p; left = record { image = i; bytes 
 module _ (κ₀ κ₁ κ₂ κ₃ : Lft) (image session frame reply : RefT (List ℕ)) (r : ℕ) (i s p : List ℕ) where
   pub frame-owed : FrameMeets κ₀ κ₁ κ₂ κ₃ image session frame reply r i s p → gave r i s p ≡ given (record { image = image .now; bytes = session .now }) (bare (frame .now))
   unfolding answerTo imageUpon
-  frame-owed m = rw (m .0, m .1 .0, m .1 .1 .0, m .1 .1 .1)
+  frame-owed m = let o = old-card (image .now) oldCard (sessionFrom (session .now)) (frame .now) refl in rw (o .0, o .1, m .0, m .1 .0, m .1 .1 .0, m .1 .1 .1)
 
   pub sealed-frame-owed : SealedMeets κ₀ κ₁ κ₂ κ₃ image session frame reply r i s p
       → gave r i s p ≡ given (record { image = image .now; bytes = session .now }) (sealed (frame .now))
   unfolding answerTo imageUpon
-  sealed-frame-owed m = rw (m .0, m .1 .0, m .1 .1 .0, m .1 .1 .1)
+  sealed-frame-owed m = let o = old-sealed (image .now) oldCard (sessionFrom (session .now)) (frame .now) refl in rw (o .0, o .1, m .0, m .1 .0, m .1 .1 .0, m .1 .1 .1)
 
 -- a field reset is told no image, and leaves it
 pub reset-owed : (κ₀ κ₁ : Lft) (image : List ℕ) (session reply : RefT (List ℕ)) (r : ℕ) (s p : List ℕ) → ResetMeets κ₀ κ₁ session reply r s p
@@ -136,6 +149,12 @@ reset-owed κ₀ κ₁ image session reply r s p m = rw (m .0, m .1 .0, m .1 .1)
 
 -- and the player's call prints the run of a lawful script's events on its image
 pub play-prints : (κ₀ κ₁ : Lft) (script printout : RefT (List ℕ)) (r : ℕ) (last : List ℕ) (events : List (List ℕ)) → PlayMeets κ₀ κ₁ script printout r last
-    → readingOf (script .now) ≡ lawful events → last ≡ putOf (printout .now) 0 (playedOf (script .now) (map sentOf events))
+    → readingOf (script .now) ≡ lawful events → last ≡ putOf (printout .now) 0 (playedOf oldCard (script .now) (map sentOf events))
 unfolding printoutOf printed eventsIn
-play-prints κ₀ κ₁ script printout r last events m e = m .1 ∙ ap (λ (w : Reading). putOf (printout .now) 0 (printed (script .now) w)) e
+play-prints κ₀ κ₁ script printout r last events m e = m .1 ∙ ap (λ (w : Reading). putOf (printout .now) 0 (printed oldCard (script .now) w)) e
+
+-- an EV1's call prints the run of its script's events, on the card that the script names
+pub play-ev1-prints : (κ₀ κ₁ : Lft) (script printout : RefT (List ℕ)) (r : ℕ) (last : List ℕ) (events : List (List ℕ)) → PlayEv1Meets κ₀ κ₁ script printout r last
+    → ev1ReadingOf (script .now) ≡ lawful events → last ≡ putOf (printout .now) 0 (playedOf (ev1CardOf (script .now)) (script .now) (map sentOf events))
+unfolding ev1PrintoutOf printed eventsIn
+play-ev1-prints κ₀ κ₁ script printout r last events m e = m .1 ∙ ap (λ (w : Reading). putOf (printout .now) 0 (printed (ev1CardOf (script .now)) (script .now) w)) e

@@ -120,7 +120,7 @@ module _ (b : Block) (v a : ℕ) where
             })
 
     step : (act : Act) → Accepted (st .image) (st .session) frame act → not (isWrite b (deedOf act)) ≡ true → (not (isTransfer b (deedOf act)) || own) ≡ true
-        → True (ownLoad b own st frame act) (booked b k st frame act) (acted st frame act .image) (acted st frame act .session .register)
+        → True (ownLoad b own st frame act) (booked b k st frame act) (acted (st .card) st frame act .image) (acted (st .card) st frame act .session .register)
     unfolding imageOf sessionOf
     step (Refused n) h w f = empties _
     step (Authenticated u l) h w f = empties _
@@ -160,17 +160,17 @@ module _ (b : Block) where
       ∙ ap (λ (x : Bool × Books). x .1) (beside-noted (ownLoad b) (booked b) false opened st events)
 
 pub demand-3 : Demand3
-demand-3 image b v a e events unwritten own =
+demand-3 k image b v a e events unwritten own =
     let P : Notes b → State → Type 0 = λ x st. True b v a (x .1 .0) (x .1 .1) (st .image) (st .session .register) in
-    let start : P (tt, (false, opened)) (begin image) = record { value = v; here = e; sum = sym (+ℤ-idr (signed v)); held = tt } in
-    let passed = beside-always (ownLoad b) (booked b) (ownTest b) (noTest b) false opened (begin image) events own (unasked (booked b) opened (begin image) events) in
+    let start : P (tt, (false, opened)) (begin k image) = record { value = v; here = e; sum = sym (+ℤ-idr (signed v)); held = tt } in
+    let passed = beside-always (ownLoad b) (booked b) (ownTest b) (noTest b) false opened (begin k image) events own (unasked (booked b) opened (begin k image) events) in
     let t =
     keeps (watch b) (test b) P
-    (λ x st frame act h f p.
+    (λ x card st frame act h f p.
     let q = both-true (not (isWrite b (deedOf act))) _ f in
     let r = both-true (not (isTransfer b (deedOf act)) || x .1 .0) _ (q .1) in
     step b v a (x .1 .0) (x .1 .1) st frame p act h (q .0) (r .0))
-    (tt, (false, opened)) (begin image) events
-    (beside-always nothingNoted (beside (ownLoad b) (booked b)) (unwrittenTest b) (both (ownLoad b) (booked b) (ownTest b) (noTest b)) tt (false, opened) (begin image) events unwritten passed)
+    (tt, (false, opened)) (begin k image) events
+    (beside-always nothingNoted (beside (ownLoad b) (booked b)) (unwrittenTest b) (both (ownLoad b) (booked b) (ownTest b) (noTest b)) tt (false, opened) (begin k image) events unwritten passed)
     start in
-    (t .value, t .here, t .sum ∙ ap (λ (k : Books). signed v +ℤ k .sum) (books b (begin image) events))
+    (t .value, t .here, t .sum ∙ ap (λ (k : Books). signed v +ℤ k .sum) (books b (begin k image) events))

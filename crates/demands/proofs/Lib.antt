@@ -16,13 +16,17 @@ pub mod OneJudge
 pub mod OneCard
 pub mod OneChecksum
 pub mod OneSealed
+pub mod OneEdition
+pub mod OneEither
 pub mod OneScript
 pub mod OneReader
 pub mod OnePlay
 pub mod OneRecord
 pub mod OneBoard
 pub mod OneEdge
+pub mod OneCardEdge
 pub mod OneDirectory
 pub mod OneMend
 pub mod OneDesk
 pub mod Boundary
+pub mod CardBoundary

@@ -1,4 +1,4 @@
--- One result for each exported function of `edge`, `chip` and `printout`, on the contract that its source states: the number and every byte of what was lent.
+-- One result for each exported function of `edge`, `chip`, `printout` and `evprint`, on the contract that its source states: the number and every byte of what was lent.
 -- Assumes nothing.
 use mathlib.Core.Path.{_≡_, sym, _∙_}
 use mathlib.Core.List.{List}
@@ -9,6 +9,7 @@ use Rattle.edge.proofs.tirlwheel_frame.Reads as frame-contract
 use Rattle.edge.proofs.tirlwheel_field_reset.Reads as reset-contract
 use Rattle.chip.proofs.tirlwheel_sealed_frame.Reads as sealed-contract
 use Rattle.printout.proofs.tirlwheel_play.Reads as play-contract
+use Rattle.evprint.proofs.tirlwheel_play_ev1.Reads as play-ev1-contract
 use Rattle.edge.proofs.tirlwheel_version.Reads as version-contract
 use Rattle.demands.specs.One.{OneResult}
 use Rattle.demands.proofs.Exact.{exact}
@@ -49,6 +50,13 @@ module _ (κ₀ κ₁ : Lft) (script printout : RefT (List ℕ)) where
 
   pub tirlwheel-play : (r r′ : ℕ) (last last′ : List ℕ) → PlayMeets r last → PlayMeets r′ last′ → (r ≡ r′) × (last ≡ last′)
   tirlwheel-play r r′ last last′ m n = (m .0 ∙ sym (n .0), m .1 ∙ sym (n .1))
+
+module _ (κ₀ κ₁ : Lft) (script printout : RefT (List ℕ)) where
+  abbrev pub PlayEv1Meets : ℕ → List ℕ → Type 0
+  PlayEv1Meets r last = play-ev1-contract.Post (κ₀, (κ₁, tt)) (script, (printout, tt)) r (script, (at-last printout last, tt))
+
+  pub tirlwheel-play-ev1 : (r r′ : ℕ) (last last′ : List ℕ) → PlayEv1Meets r last → PlayEv1Meets r′ last′ → (r ≡ r′) × (last ≡ last′)
+  tirlwheel-play-ev1 r r′ last last′ m n = (m .0 ∙ sym (n .0), m .1 ∙ sym (n .1))
 
 pub tirlwheel-version : OneResult (λ r. version-contract.Post tt tt r tt)
 tirlwheel-version = exact

@@ -12,6 +12,7 @@ use Rattle.script.proofs.events_start.Reads as events-start-contract
 use Rattle.script.proofs.event_refusal.Reads as event-refusal-contract
 use Rattle.script.proofs.next_at.Reads as next-at-contract
 use Rattle.script.proofs.refusal_of.Reads as refusal-of-contract
+use Rattle.script.proofs.ev1_script.Reads as ev1-script-contract
 use Rattle.demands.specs.One.{OneResult}
 use Rattle.demands.proofs.Exact.{exact}
 
@@ -36,3 +37,6 @@ event-refusal κ script at = exact
 
 pub refusal-of : (κ : Lft) (script : RefT (List ℕ)) → OneResult (λ r. refusal-of-contract.Post (κ, tt) (script, tt) r (script, tt))
 refusal-of κ script = exact
+
+pub ev1-script : (κ : Lft) (script : RefT (List ℕ)) → OneResult (λ r. ev1-script-contract.Post (κ, tt) (script, tt) r (script, tt))
+ev1-script κ script = exact

@@ -232,18 +232,18 @@ module _ (t : Sector) (top : ℤ) where
     step Halted h k = emptied image freshOf refl refl
 
 pub one-way : OneWay
-one-way image t top ride below events k =
+one-way card image t top ride below events k =
     let P : Unit {0} → State → Type 0 = λ x st. Safe t top (st .image) (st .session) in
-    let start : P tt (begin image) = record { ride = ride; below = below; held = λ l v a e f. absurd (full-empty v a (sym f)) } in
+    let start : P tt (begin card image) = record { ride = ride; below = below; held = λ l v a e f. absurd (full-empty v a (sym f)) } in
     keeps nothingNoted (λ x st frame act. not (isWrite (trailerOf t) (deedOf act))) P
-    (λ x st frame act h f safe. step t top (st .image) (st .session) frame safe act h (not-true _ f))
-    tt (begin image) events k start .below
+    (λ x _ st frame act h f safe. step t top (st .image) (st .session) frame safe act h (not-true _ f))
+    tt (begin card image) events k start .below
 
 pub none-ever : NoneEver
-none-ever image t ride none events k b d = go (decodeOf (contentOf (runOf (begin image) events .image) b)) refl
+none-ever card image t ride none events k b d = go (decodeOf (contentOf (runOf (begin card image) events .image) b)) refl
   where
-    go : (r : Decoded) → decodeOf (contentOf (runOf (begin image) events .image) b) ≡ r → r ≡ NoValue
+    go : (r : Decoded) → decodeOf (contentOf (runOf (begin card image) events .image) b) ≡ r → r ≡ NoValue
     go NoValue e = refl
     go (Value v a) e =
         let start : AtMost (signed v -ℤ pos 1) image t = λ c f w g q. absurd (value-none w g (sym q ∙ none c f)) in
-        absurd (above-itself (signed v) (one-way image t (signed v -ℤ pos 1) ride start events k b d v a e))
+        absurd (above-itself (signed v) (one-way card image t (signed v -ℤ pos 1) ride start events k b d v a e))

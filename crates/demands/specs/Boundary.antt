@@ -6,6 +6,7 @@ use lib.ListN.{replicate}
 use Rattle.session.specs.Session.{freshOf}
 use Rattle.card.specs.Effects.{packedOf}
 use Rattle.record.specs.Record.{valueBits, recordOf, sessionFrom}
+use Rattle.edition.specs.Edition.{oldCard}
 use Rattle.runs.specs.Run.{State, begin, Sent, answerTo, imageUpon, runOf}
 use Rattle.demands.specs.Demand1.{Row, table, asked, noReply, Met}
 
@@ -14,9 +15,9 @@ pub record Lent : Type 0 where
   pub image : List ℕ
   pub bytes : List ℕ
 
--- twelve bytes for a session, and a session as twelve bytes
+-- twelve bytes for a session, and a session as twelve bytes; these calls are the old edition's
 abbrev pub stateOf : Lent → State
-stateOf l = record { image = l .image; session = sessionFrom (l .bytes) }
+stateOf l = record { card = oldCard; image = l .image; session = sessionFrom (l .bytes) }
 
 abbrev pub lentOf : State → Lent
 lentOf st = record { image = st .image; bytes = recordOf (st .session) }
@@ -29,7 +30,7 @@ pub record Given : Type 0 where
 
 abbrev pub givenBy : State → Sent → Given
 givenBy st e =
-    record { result = packedOf (answerTo st e .number) (answerTo st e .sign); reply = answerTo st e .reply; left = lentOf (record { image = imageUpon st e; session = answerTo st e .session }) }
+    record { result = packedOf (answerTo st e .answer .number) (answerTo st e .answer .sign); reply = answerTo st e .answer .reply; left = record { image = imageUpon st e; bytes = recordOf (answerTo st e .answer .session) } }
 
 -- what is owed for whatever is lent
 abbrev pub given : Lent → Sent → Given
@@ -48,7 +49,7 @@ ZerosAreFresh = (sessionFrom (replicate 12 0) ≡ freshOf) × (recordOf freshOf 
 
 -- whatever is lent, the register of the answer has 32 bits, so that no session loses anything as twelve bytes
 abbrev pub RegisterFits : Lent → Sent → Type 0
-RegisterFits l e = valueBits (answerTo (stateOf l) e .session .register) < 4294967296
+RegisterFits l e = valueBits (answerTo (stateOf l) e .answer .session .register) < 4294967296
 
 -- calls one after the other, each on what the one before left
 unfoldable pub callsOf : Lent → List Sent → Lent
@@ -59,5 +60,5 @@ callsOf l (e ∷ es) = callsOf (given l e .left) es
 abbrev pub CallsAreTheRun : Type 0
 CallsAreTheRun =
     (image : List ℕ) (past : List Sent) (e : Sent)
-    → (callsOf (record { image = image; bytes = replicate 12 0 }) past ≡ lentOf (runOf (begin image) past))
-    × (given (callsOf (record { image = image; bytes = replicate 12 0 }) past) e ≡ givenBy (runOf (begin image) past) e)
+    → (callsOf (record { image = image; bytes = replicate 12 0 }) past ≡ lentOf (runOf (begin oldCard image) past))
+    × (given (callsOf (record { image = image; bytes = replicate 12 0 }) past) e ≡ givenBy (runOf (begin oldCard image) past) e)

@@ -9,7 +9,9 @@ use Rattle.value.specs.Block.{encodeOf, decodeOf}
 use Rattle.value.specs.declared.block.Decoded.the-variants.{Value}
 use Rattle.session.specs.declared.Session.{Session}
 use Rattle.card.specs.Step.{answerOf, imageAfter}
-use Rattle.sealed.specs.Sealed.{innerOf, unsealed, sealedOf, sealedAnswerOf, sealedImageAfter}
+use Rattle.sealed.specs.Sealed.{innerOf, unsealed, sealedAnswerOf, sealedImageAfter}
+use Rattle.edition.specs.declared.CardRecord.{CardRecord}
+use Rattle.either.specs.Either.{cardAnswerOf, cardImageAfter, sealedCardOf, sealedCardAnswerOf, sealedCardImageAfter}
 use Rattle.runs.specs.Run.{State, Sent, reset, bare, sealed, answerTo, after, runOf, answersOf}
 
 -- every value in range and every address byte, written as a value block, read back
@@ -27,10 +29,17 @@ pub record EventByEvent (st : State) (past : List Sent) (event : Sent) (future :
   pub left : runOf st (past ++ (event ∷ [])) ≡ after (runOf st past) event
 
 -- past 14 a frame with its checksum gets the bare answer to the inner bytes, with its reply extended, and leaves the same image
-abbrev pub AsBare : List ℕ → Session → List ℕ → Type 0
-AsBare image s frame =
+abbrev pub AsBare : List ℕ → CardRecord → Session → List ℕ → Type 0
+AsBare image k s frame =
     unsealed frame ≡ false
-    → (sealedAnswerOf image s frame ≡ sealedOf (answerOf image s (innerOf frame))) × (sealedImageAfter image s frame ≡ imageAfter image s (innerOf frame))
+    → (sealedCardAnswerOf image k s frame ≡ sealedCardOf (cardAnswerOf image k s (innerOf frame))) × (sealedCardImageAfter image k s frame ≡ cardImageAfter image k s (innerOf frame))
+
+-- an old card does what it did before there were editions, through either entry: its answers have no value of a NAK, and its record stays, a locked choice too
+pub record AsBefore (image : List ℕ) (k : CardRecord) (s : Session) (frame : List ℕ) : Type 0 where
+  pub bare-answer : cardAnswerOf image k s frame ≡ record { answer = answerOf image s frame; nak = 0; card = k }
+  pub bare-image : cardImageAfter image k s frame ≡ imageAfter image s frame
+  pub sealed-answer : sealedCardAnswerOf image k s frame ≡ record { answer = sealedAnswerOf image s frame; nak = 0; card = k }
+  pub sealed-image : sealedCardImageAfter image k s frame ≡ sealedImageAfter image s frame
 
 -- the bare event that leaves the same: the inner bytes; a refusal with 14 leaves what a field reset leaves
 abbrev pub bareOf : Sent → Sent

@@ -16,6 +16,7 @@ use Rattle.session.specs.declared.Stage.{Stage}
 use Rattle.session.specs.declared.Stage.the-variants as stage
 use Rattle.judge.specs.declared.Act.{Act}
 use Rattle.judge.specs.declared.Act.the-variants.{Refused, Authenticated, Shown, TrailerShown, WriteWaits, ValueWaits, Stored, TrailerStored, Loaded, Moved, Halted}
+use Rattle.edition.specs.declared.CardRecord.{CardRecord}
 use Rattle.runs.specs.Run.{State, begin, Sent, runOf}
 use Rattle.runs.specs.Watch.{noted, always, everyAct}
 
@@ -113,10 +114,10 @@ entered b k w frame nothing = k
 abbrev pub booked : Block → Books → State → List ℕ → Act → Books
 booked b k st frame act = entered b k (st .session .stage) frame (deedOf act)
 
--- after any such run from a fresh session the block is a value block, with the same address byte, and its value is the first one plus what was counted
+-- after any such run of a card of either edition from a fresh session the block is a value block, with the same address byte, and its value is the first one plus what was counted
 abbrev pub Demand3 : Type 0
 Demand3 =
-    (image : List ℕ) (b : Block) (v a : ℕ) → decodeOf (contentOf image b) ≡ Value v a
-    → (events : List Sent) → NotWritten b (begin image) events → OwnTransfers b (begin image) events
-    → (w : ℕ) × (decodeOf (contentOf (runOf (begin image) events .image) b) ≡ Value w a)
-    × (signed w ≡ signed v +ℤ noted (booked b) opened (begin image) events .sum)
+    (k : CardRecord) (image : List ℕ) (b : Block) (v a : ℕ) → decodeOf (contentOf image b) ≡ Value v a
+    → (events : List Sent) → NotWritten b (begin k image) events → OwnTransfers b (begin k image) events
+    → (w : ℕ) × (decodeOf (contentOf (runOf (begin k image) events .image) b) ≡ Value w a)
+    × (signed w ≡ signed v +ℤ noted (booked b) opened (begin k image) events .sum)

@@ -11,7 +11,12 @@ use Rattle.layout.specs.declared.Sector.{Sector}
 use Rattle.memory.specs.Memory.{contentOf}
 use Rattle.value.specs.Block.{encodeOf, decodeOf}
 use Rattle.value.specs.declared.block.Decoded.the-variants.{Value}
-use Rattle.card.specs.declared.Answer.{Answer}
+use Rattle.edition.specs.Edition.{oldCard}
+use Rattle.edition.specs.declared.Edition.the-variants.{Ev1}
+use Rattle.edition.specs.declared.Usage.the-variants.{Shortened}
+use Rattle.edition.specs.declared.Choice.the-variants.{Open, Locked}
+use Rattle.edition.specs.declared.CardRecord.{CardRecord}
+use Rattle.either.specs.declared.CardAnswer.{CardAnswer}
 use Rattle.checksum.specs.Checksum.{crcOf, twoOf}
 use Rattle.runs.specs.Run.{begin, Sent, reset, bare, sealed, runOf, answersOf}
 use Rattle.runs.specs.Watch.{noted}
@@ -39,13 +44,13 @@ abbrev pub login : ℕ → List ℕ
 login b = 0x60 ∷ b ∷ replicate 6 0xFF
 
 -- a run in which a block counts from v to w
-pub record CountedRun (image : List ℕ) (b : Block) (v w a : ℕ) (change : ℤ) (events : List Sent) (numbers : List ℕ) : Type 0 where
+pub record CountedRun (k : CardRecord) (image : List ℕ) (b : Block) (v w a : ℕ) (change : ℤ) (events : List Sent) (numbers : List ℕ) : Type 0 where
   pub begins : decodeOf (contentOf image b) ≡ Value v a
-  pub unwritten : NotWritten b (begin image) events
-  pub own : OwnTransfers b (begin image) events
-  pub answered : map (λ (x : Answer). x .number) (answersOf (begin image) events) ≡ numbers
-  pub counted : noted (booked b) opened (begin image) events .sum ≡ change
-  pub ends : decodeOf (contentOf (runOf (begin image) events .image) b) ≡ Value w a
+  pub unwritten : NotWritten b (begin k image) events
+  pub own : OwnTransfers b (begin k image) events
+  pub answered : map (λ (x : CardAnswer). x .answer .number) (answersOf (begin k image) events) ≡ numbers
+  pub counted : noted (booked b) opened (begin k image) events .sum ≡ change
+  pub ends : decodeOf (contentOf (runOf (begin k image) events .image) b) ≡ Value w a
 
 -- a 1K card whose block 4 holds 100 with address byte 4
 unfoldable pub purseCard : List ℕ
@@ -73,7 +78,7 @@ purseEvents =
     ∷ []
 
 abbrev pub PurseRun : Type 0
-PurseRun = CountedRun purseCard (blockAt 4) 100 102 4 (pos 2) purseEvents (0 ∷ 0 ∷ 0 ∷ 0 ∷ 0 ∷ 0 ∷ 10 ∷ 14 ∷ 0 ∷ 0 ∷ 0 ∷ 0 ∷ 0 ∷ 0 ∷ [])
+PurseRun = CountedRun oldCard purseCard (blockAt 4) 100 102 4 (pos 2) purseEvents (0 ∷ 0 ∷ 0 ∷ 0 ∷ 0 ∷ 0 ∷ 10 ∷ 14 ∷ 0 ∷ 0 ∷ 0 ∷ 0 ∷ 0 ∷ 0 ∷ [])
 
 -- a 4K card whose block 129, in its first large sector, holds 7 with address byte 200
 unfoldable pub largeCard : List ℕ
@@ -103,7 +108,7 @@ largeEvents =
     ∷ []
 
 abbrev pub LargeRun : Type 0
-LargeRun = CountedRun largeCard (blockAt 129) 7 5 200 (negsuc 1) largeEvents (0 ∷ 0 ∷ 0 ∷ 0 ∷ 0 ∷ 0 ∷ 3 ∷ 0 ∷ 0 ∷ 0 ∷ 0 ∷ 3 ∷ 0 ∷ 0 ∷ 0 ∷ 0 ∷ [])
+LargeRun = CountedRun oldCard largeCard (blockAt 129) 7 5 200 (negsuc 1) largeEvents (0 ∷ 0 ∷ 0 ∷ 0 ∷ 0 ∷ 0 ∷ 3 ∷ 0 ∷ 0 ∷ 0 ∷ 0 ∷ 3 ∷ 0 ∷ 0 ∷ 0 ∷ 0 ∷ [])
 
 -- a 1K card whose sector 1 has the bits 001 throughout, with 50 in block 4 and 30 in block 5
 unfoldable pub rideCard : List ℕ
@@ -130,7 +135,47 @@ rideEvents =
 -- one block has risen, and the largest has not
 pub record RideRun : Type 0 where
   pub rides : RideSector rideCard rideSector
-  pub unwritten : NotWritten (trailerOf rideSector) (begin rideCard) rideEvents
-  pub answered : map (λ (x : Answer). x .number) (answersOf (begin rideCard) rideEvents) ≡ 0 ∷ 0 ∷ 13 ∷ 3 ∷ 0 ∷ 0 ∷ 0 ∷ 0 ∷ []
-  pub largest : decodeOf (contentOf (runOf (begin rideCard) rideEvents .image) (blockAt 4)) ≡ Value 50 4
-  pub risen : decodeOf (contentOf (runOf (begin rideCard) rideEvents .image) (blockAt 5)) ≡ Value 49 4
+  pub unwritten : NotWritten (trailerOf rideSector) (begin oldCard rideCard) rideEvents
+  pub answered : map (λ (x : CardAnswer). x .answer .number) (answersOf (begin oldCard rideCard) rideEvents) ≡ 0 ∷ 0 ∷ 13 ∷ 3 ∷ 0 ∷ 0 ∷ 0 ∷ 0 ∷ []
+  pub largest : decodeOf (contentOf (runOf (begin oldCard rideCard) rideEvents .image) (blockAt 4)) ≡ Value 50 4
+  pub risen : decodeOf (contentOf (runOf (begin oldCard rideCard) rideEvents .image) (blockAt 5)) ≡ Value 49 4
+
+-- an EV1 that is open to a choice
+abbrev pub ev1Card : CardRecord
+ev1Card = record { edition = Ev1; choice = Open }
+
+-- its twin of the ride card: 4K, the same sector 1
+unfoldable pub ev1RideCard : List ℕ
+ev1RideCard =
+    blankSectors 1
+    ++ ((encodeOf (pos 50) 4 ++ (encodeOf (pos 30) 5 ++ (replicate 16 0 ++ trailerWith (0xFF ∷ 0x00 ∷ 0xF0 ∷ [])))) ++ (blankSectors 30 ++ replicate 2048 0))
+
+unfoldable pub ev1RideEvents : List Sent
+ev1RideEvents =
+    -- a type is chosen in sector 0; a second choice is refused, the first one stays
+    bare (login 0)
+    ∷ withChecksum (0x40 ∷ 0x40 ∷ [])
+    ∷ bare (0x40 ∷ 0x20 ∷ [])
+    -- a decrement of 1, transferred into the other block; 40h outside sector 0, with the register full
+    ∷ withChecksum (login 4)
+    ∷ bare (0xC0 ∷ 4 ∷ [])
+    ∷ withChecksum (1 ∷ 0 ∷ 0 ∷ 0 ∷ [])
+    ∷ bare (0xB0 ∷ 5 ∷ [])
+    ∷ bare (0x40 ∷ 0x20 ∷ [])
+    -- a decrement of -50, a wrong checksum, a field reset
+    ∷ bare (login 4)
+    ∷ bare (0xC0 ∷ 4 ∷ [])
+    ∷ bare (0xCE ∷ 0xFF ∷ 0xFF ∷ 0xFF ∷ [])
+    ∷ sealed (0x30 ∷ 4 ∷ 0 ∷ 0 ∷ [])
+    ∷ reset
+    ∷ []
+
+pub record Ev1RideRun : Type 0 where
+  pub rides : RideSector ev1RideCard rideSector
+  pub unwritten : NotWritten (trailerOf rideSector) (begin ev1Card ev1RideCard) ev1RideEvents
+  pub answered :
+      map (λ (x : CardAnswer). x .answer .number) (answersOf (begin ev1Card ev1RideCard) ev1RideEvents) ≡ 0 ∷ 0 ∷ 18 ∷ 0 ∷ 0 ∷ 0 ∷ 0 ∷ 3 ∷ 0 ∷ 0 ∷ 13 ∷ 14 ∷ 0 ∷ []
+  pub values : map (λ (x : CardAnswer). x .nak) (answersOf (begin ev1Card ev1RideCard) ev1RideEvents) ≡ 0 ∷ 0 ∷ 4 ∷ 0 ∷ 0 ∷ 0 ∷ 0 ∷ 0 ∷ 0 ∷ 0 ∷ 4 ∷ 5 ∷ 0 ∷ []
+  pub chosen : runOf (begin ev1Card ev1RideCard) ev1RideEvents .card ≡ record { edition = Ev1; choice = Locked Shortened }
+  pub largest : decodeOf (contentOf (runOf (begin ev1Card ev1RideCard) ev1RideEvents .image) (blockAt 4)) ≡ Value 50 4
+  pub risen : decodeOf (contentOf (runOf (begin ev1Card ev1RideCard) ev1RideEvents .image) (blockAt 5)) ≡ Value 49 4

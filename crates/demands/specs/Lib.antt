@@ -6,3 +6,4 @@ pub mod Demand3
 pub mod OneWay
 pub mod Example
 pub mod Boundary
+pub mod CardBoundary

@@ -16,6 +16,7 @@ use Rattle.access.specs.declared.bits.AccessBytes.{AccessBytes}
 use Rattle.value.specs.Whole.{signed}
 use Rattle.value.specs.Block.{decodeOf}
 use Rattle.value.specs.declared.block.Decoded.the-variants.{Value, NoValue}
+use Rattle.edition.specs.declared.CardRecord.{CardRecord}
 use Rattle.runs.specs.Run.{begin, Sent, runOf}
 use Rattle.demands.specs.Demand3.{NotWritten}
 
@@ -40,15 +41,15 @@ pub record DataBlock (t : Sector) (b : Block) : Type 0 where
 abbrev pub AtMost : ℤ → List ℕ → Sector → Type 0
 AtMost top image t = (b : Block) → DataBlock t b → (v a : ℕ) → decodeOf (contentOf image b) ≡ Value v a → leZ (signed v) top ≡ true
 
--- what no value exceeds at the start, none exceeds after any run from a fresh session without an accepted Write to the trailer
+-- on a card of either edition, what no value exceeds at the start, none exceeds after any run from a fresh session without an accepted Write to the trailer
 abbrev pub OneWay : Type 0
 OneWay =
-    (image : List ℕ) (t : Sector) (top : ℤ) → RideSector image t → AtMost top image t
-    → (events : List Sent) → NotWritten (trailerOf t) (begin image) events → AtMost top (runOf (begin image) events .image) t
+    (k : CardRecord) (image : List ℕ) (t : Sector) (top : ℤ) → RideSector image t → AtMost top image t
+    → (events : List Sent) → NotWritten (trailerOf t) (begin k image) events → AtMost top (runOf (begin k image) events .image) t
 
 -- and a sector without a value block never gets one
 abbrev pub NoneEver : Type 0
 NoneEver =
-    (image : List ℕ) (t : Sector) → RideSector image t → ((b : Block) → DataBlock t b → decodeOf (contentOf image b) ≡ NoValue)
-    → (events : List Sent) → NotWritten (trailerOf t) (begin image) events
-    → (b : Block) → DataBlock t b → decodeOf (contentOf (runOf (begin image) events .image) b) ≡ NoValue
+    (k : CardRecord) (image : List ℕ) (t : Sector) → RideSector image t → ((b : Block) → DataBlock t b → decodeOf (contentOf image b) ≡ NoValue)
+    → (events : List Sent) → NotWritten (trailerOf t) (begin k image) events
+    → (b : Block) → DataBlock t b → decodeOf (contentOf (runOf (begin k image) events .image) b) ≡ NoValue

@@ -12,6 +12,6 @@ frameAnswer image bytes frame = answerOf image (sessionFrom bytes) frame
 abbrev pub frameImage : List ℕ → List ℕ → List ℕ → List ℕ
 frameImage image bytes frame = imageAfter image (sessionFrom bytes) frame
 
--- which boundary this is; a change that an old caller would notice counts one up: 2 with frames that have their checksum, 3 where an operand below zero is refused
+-- which boundary this is; a change that an old caller would notice counts one up: 2 with frames that have their checksum, 3 where an operand below zero is refused, 4 with the record of a card
 abbrev pub versionOf : ℕ
-versionOf = 3
+versionOf = 4

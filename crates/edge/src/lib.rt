@@ -7,7 +7,7 @@ ghost use Rattle.edge.specs.Edge.{frameAnswer, frameImage, versionOf};
 use card::Answer;
 use record::Found;
 
-const VERSION: u32 = 3;
+const VERSION: u32 = 4;
 
 // An answer handed over: its session as a record, its reply, and its number and sign in one.
 fn give(a: Answer, session: &mut [u8; 12], reply: &mut [u8; 16]) -> u32

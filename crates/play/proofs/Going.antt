@@ -10,7 +10,8 @@ use lib.ListN.{length}
 use borrow.Author.Tests.{eqb-true, eqb-false}
 use Rattle.session.specs.Session.{freshOf}
 use Rattle.session.specs.declared.Session.{Session}
-use Rattle.card.specs.declared.Answer.{Answer}
+use Rattle.edition.specs.declared.CardRecord.{CardRecord}
+use Rattle.either.specs.declared.CardAnswer.{CardAnswer}
 use Rattle.script.specs.Script.{eventRefusal, frameAt, nextAt, Walk, walked, stopped, before, eventsFrom, stopIn, eventsOn}
 use Rattle.reader.specs.Reader.{stepAt, bytesOf}
 use Rattle.reader.specs.declared.Step.{Step}
@@ -19,9 +20,9 @@ use Rattle.runs.specs.Run.{State, begin, Sent, answerTo, imageUpon, after, runO
 use Rattle.play.specs.Text.{Put}
 use Rattle.play.specs.Run.{sentOf}
 use Rattle.play.specs.Printout.{eventLines}
-use Rattle.play.specs.Results.{widthOf, resultsOf, keptOne, keptOf}
+use Rattle.play.specs.Results.{widthOf, resultsOf, cardResultsOf, keptOne, keptOf}
 use Rattle.play.specs.declared.events.Form.{Form}
-use Rattle.play.specs.declared.events.Form.the-variants.{Lines, Results}
+use Rattle.play.specs.declared.events.Form.the-variants.{Lines, Results, CardResults}
 use Rattle.play.proofs.Put.{put-nothing, put-length, then}
 
 -- a walk that begins with an event
@@ -82,16 +83,18 @@ through script (suc n) place h = go (eqb (eventRefusal script place) 0) refl h (
     go true e q f = let r = f (sym (same-stop (frameAt script place) inner) ∙ q) in (r .0, before-through (frameAt script place) inner (r .0) (r .1))
     go false e q f = absurd (eqb-false (eventRefusal script place) 0 e q)
 
--- one answer after the other, in either form
+-- one answer after the other, in each form
 kept-none : (f : Form) (i : ℕ) → keptOf f i [] ≡ []
-unfolding eventLines resultsOf
-kept-none Lines i = refl
+unfolding eventLines resultsOf cardResultsOf
+kept-none (Lines e) i = refl
 kept-none Results i = refl
+kept-none CardResults i = refl
 
-kept-more : (f : Form) (i : ℕ) (a : Answer) (rest : List Answer) → keptOf f i (a ∷ rest) ≡ keptOne f i a ++ keptOf f (i + 1) rest
-unfolding eventLines resultsOf
-kept-more Lines i a rest = refl
+kept-more : (f : Form) (i : ℕ) (a : CardAnswer) (rest : List CardAnswer) → keptOf f i (a ∷ rest) ≡ keptOne f i a ++ keptOf f (i + 1) rest
+unfolding eventLines resultsOf cardResultsOf
+kept-more (Lines e) i a rest = refl
 kept-more Results i a rest = refl
+kept-more CardResults i a rest = refl
 
 within : (x y z : ℕ) → x ≤ y → y ≤ z → x ≤ z
 within x y z p q = omega arith
@@ -101,34 +104,37 @@ same-room x = omega arith
 
 -- the room that is left after one answer more
 room-next : (f : Form) (to to′ left end : ℕ) → 0 < left → to + widthOf f * left ≤ end → to′ ≤ to + widthOf f → to′ + widthOf f * (left - 1) ≤ end
-room-next Lines to to′ left end h r m = omega arith
+room-next (Lines e) to to′ left end h r m = omega arith
 room-next Results to to′ left end h r m = omega arith
+room-next CardResults to to′ left end h r m = omega arith
 
 room-here : (f : Form) (to left end : ℕ) → 0 < left → to + widthOf f * left ≤ end → to + widthOf f ≤ end
-room-here Lines to left end h r = omega arith
+room-here (Lines e) to left end h r = omega arith
 room-here Results to left end h r = omega arith
+room-here CardResults to left end h r = omega arith
 
 room-end : (f : Form) (to left end : ℕ) → to + widthOf f * left ≤ end → to ≤ end
-room-end Lines to left end r = omega arith
+room-end (Lines e) to left end r = omega arith
 room-end Results to left end r = omega arith
+room-end CardResults to left end r = omega arith
 
--- an image and a session
-abbrev at-rest : List ℕ → Session → State
-at-rest image s = record { image = image; session = s }
+-- a record, an image and a session
+abbrev at-rest : CardRecord → List ℕ → Session → State
+at-rest k image s = record { card = k; image = image; session = s }
 
-module _ (form : Form) (script : List ℕ) (image₀ out₀ : List ℕ) (at count start : ℕ) where
+module _ (form : Form) (card : CardRecord) (script : List ℕ) (image₀ out₀ : List ℕ) (at count start : ℕ) where
   -- the events of the whole
   abbrev all : List Sent
   all = map sentOf (eventsOn (eventsFrom script count start))
 
-  pub record Going (image out : List ℕ) (s : Session) (place to i left : ℕ) : Type 0 where
+  pub record Going (image out : List ℕ) (k : CardRecord) (s : Session) (place to i left : ℕ) : Type 0 where
     pub rest : List (List ℕ)
     pub done : List ℕ
     pub last : ℕ
     pub ahead : eventsFrom script left place ≡ walked rest last
     pub put : Put out₀ at done out to
-    pub kept : done ++ keptOf form i (answersOf (at-rest image s) (map sentOf rest)) ≡ keptOf form 1 (answersOf (begin image₀) all)
-    pub ran : runOf (at-rest image s) (map sentOf rest) ≡ runOf (begin image₀) all
+    pub kept : done ++ keptOf form i (answersOf (at-rest k image s) (map sentOf rest)) ≡ keptOf form 1 (answersOf (begin card image₀) all)
+    pub ran : runOf (at-rest k image s) (map sentOf rest) ≡ runOf (begin card image₀) all
     pub same-image : length image ≡ length image₀
     pub same-out : length out ≡ length out₀
     pub few : i + left ≤ 1001
@@ -136,7 +142,7 @@ module _ (form : Form) (script : List ℕ) (image₀ out₀ : List ℕ) (at coun
     pub fits : at + widthOf form * count ≤ length out₀
 
   pub started : (s : Session) → s ≡ freshOf → count ≤ 1000 → at + widthOf form * count ≤ length out₀ → stopIn (eventsFrom script count start) ≡ 0
-      → Going image₀ out₀ s start at 1 count
+      → Going image₀ out₀ card s start at 1 count
   started s e c r n =
       let t = through script count start n in
       record {
@@ -154,7 +160,7 @@ module _ (form : Form) (script : List ℕ) (image₀ out₀ : List ℕ) (at coun
         fits = r;
       }
 
-  module _ {image out : List ℕ} {s : Session} {place to i left : ℕ} (g : Going image out s place to i left) where
+  module _ {image out : List ℕ} {k : CardRecord} {s : Session} {place to i left : ℕ} (g : Going image out k s place to i left) where
     -- there is room for an answer
     pub answer-room : 0 < left → to + widthOf form ≤ length out
     answer-room h =
@@ -166,9 +172,9 @@ module _ (form : Form) (script : List ℕ) (image₀ out₀ : List ℕ) (at coun
         let n = next-event script left place (g .rest) (g .last) h (g .ahead) in
         f ∙ ap (λ (x : Step). bytesOf script (x .found)) e ∙ lawful-event script place (n .0)
 
-    pub turn : (a : Answer) (frame image′ out′ : List ℕ) (place′ to′ : ℕ) → 0 < left → frame ≡ frameAt script place → a ≡ answerTo (at-rest image s) (sentOf frame)
-        → image′ ≡ imageUpon (at-rest image s) (sentOf frame) → length image′ ≡ length image → Put out to (keptOne form i a) out′ to′ → to′ ≤ to + widthOf form
-        → place′ ≡ nextAt script place → Going image′ out′ (a .session) place′ to′ (i + 1) (left - 1)
+    pub turn : (a : CardAnswer) (frame image′ out′ : List ℕ) (place′ to′ : ℕ) → 0 < left → frame ≡ frameAt script place → a ≡ answerTo (at-rest k image s) (sentOf frame)
+        → image′ ≡ imageUpon (at-rest k image s) (sentOf frame) → length image′ ≡ length image → Put out to (keptOne form i a) out′ to′ → to′ ≤ to + widthOf form
+        → place′ ≡ nextAt script place → Going image′ out′ (a .card) (a .answer .session) place′ to′ (i + 1) (left - 1)
     unfolding answersOf runOf after
     turn a frame image′ out′ place′ to′ h f ea ei li p b ep =
         let n = next-event script left place (g .rest) (g .last) h (g .ahead) .1 in
@@ -181,8 +187,8 @@ module _ (form : Form) (script : List ℕ) (image₀ out₀ : List ℕ) (at coun
           put = then (g .put) p;
           kept =
               append-assoc (g .done) (keptOne form i a) _ ∙ ap (λ (l : List ℕ). g .done ++ l) (sym (kept-more form i a _))
-              ∙ rw (ei, ea) (ap (λ (es : List (List ℕ)). g .done ++ keptOf form i (answersOf (at-rest image s) (map sentOf es))) (sym ra) ∙ g .kept);
-          ran = rw (ei, ea) (ap (λ (es : List (List ℕ)). runOf (at-rest image s) (map sentOf es)) (sym ra) ∙ g .ran);
+              ∙ rw (ei, ea) (ap (λ (es : List (List ℕ)). g .done ++ keptOf form i (answersOf (at-rest k image s) (map sentOf es))) (sym ra) ∙ g .kept);
+          ran = rw (ei, ea) (ap (λ (es : List (List ℕ)). runOf (at-rest k image s) (map sentOf es)) (sym ra) ∙ g .ran);
           same-image = li ∙ g .same-image;
           same-out = ap length (p .here) ∙ put-length out to (keptOne form i a) (omega (arith, p .moved, p .fits)) ∙ g .same-out;
           few = omega (arith, g .few);
@@ -194,17 +200,17 @@ module _ (form : Form) (script : List ℕ) (image₀ out₀ : List ℕ) (at coun
       over : g .rest ≡ []
       over = last-event script left place (g .rest) (g .last) h (g .ahead)
 
-      pub end-kept : Put out₀ at (keptOf form 1 (answersOf (begin image₀) all)) out to
+      pub end-kept : Put out₀ at (keptOf form 1 (answersOf (begin card image₀) all)) out to
       unfolding answersOf
       end-kept =
-          let e : g .done ≡ keptOf form 1 (answersOf (begin image₀) all) =
+          let e : g .done ≡ keptOf form 1 (answersOf (begin card image₀) all) =
           sym (append-nil (g .done)) ∙ ap (λ (l : List ℕ). g .done ++ l) (sym (kept-none form i))
-          ∙ ap (λ (es : List (List ℕ)). g .done ++ keptOf form i (answersOf (at-rest image s) (map sentOf es))) (sym over) ∙ g .kept in
+          ∙ ap (λ (es : List (List ℕ)). g .done ++ keptOf form i (answersOf (at-rest k image s) (map sentOf es))) (sym over) ∙ g .kept in
           rw (← e) (g .put)
 
-      pub end-state : at-rest image s ≡ runOf (begin image₀) all
+      pub end-state : at-rest k image s ≡ runOf (begin card image₀) all
       unfolding runOf
-      end-state = ap (λ (es : List (List ℕ)). runOf (at-rest image s) (map sentOf es)) (sym over) ∙ g .ran
+      end-state = ap (λ (es : List (List ℕ)). runOf (at-rest k image s) (map sentOf es)) (sym over) ∙ g .ran
 
       pub end-place : to ≤ at + widthOf form * count
       end-place = room-end form to left (at + widthOf form * count) (g .room)

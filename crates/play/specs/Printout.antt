@@ -1,17 +1,22 @@
 -- The printout: every byte of it, as a definition of the script's bytes.
 use mathlib.Core.Bool.{cond}
 use mathlib.Core.List.{List, [], _∷_, _++_}
-use Prim.Native.Nat.{ℕ, zero, suc, _+_}
+use Prim.Native.Nat.{ℕ, zero, suc, _+_, _%_}
 use Rattle.layout.specs.Layout.{blockAt, blocksOf}
 use Rattle.memory.specs.Memory.{contentOf}
 use Rattle.value.specs.Block.{same}
 use Rattle.card.specs.declared.Sign.{Sign}
 use Rattle.card.specs.declared.Sign.the-variants.{Ack, Nak, Data, Nothing}
-use Rattle.card.specs.declared.Answer.{Answer}
+use Rattle.edition.specs.Edition.{oldCard}
+use Rattle.edition.specs.declared.Edition.{Edition}
+use Rattle.edition.specs.declared.Edition.the-variants.{Old, Ev1}
+use Rattle.edition.specs.declared.CardRecord.{CardRecord}
+use Rattle.either.specs.declared.CardAnswer.{CardAnswer}
 use Rattle.script.specs.Script.{Reading, lawful, refused, imageSize, imagePart, eventCount, readingOf}
+use Rattle.script.specs.Lock.{ev1ReadingOf}
 use Rattle.runs.specs.Run.{begin, Sent, runOf, answersOf}
-use Rattle.play.specs.Text.{space, newline, scriptWord, cardWord, eventsWord, blockWord, letterA, letterN, dash, decimalOf, hexOf}
-use Rattle.play.specs.Run.{eventsIn}
+use Rattle.play.specs.Text.{space, newline, scriptWord, cardWord, eventsWord, blockWord, letterA, letterN, dash, decimalOf, hexDigit, hexOf}
+use Rattle.play.specs.Run.{eventsIn, ev1CardOf}
 
 -- `script`, a space and the number of the refusal
 unfoldable pub refusalLine : ℕ → List ℕ
@@ -22,20 +27,26 @@ unfoldable pub headerLine : ℕ → ℕ → List ℕ
 headerLine size count =
     cardWord ++ (space ∷ (decimalOf size ++ (space ∷ (eventsWord ++ (space ∷ (decimalOf count ++ (newline ∷ [])))))))
 
+-- a NAK: N, and an EV1's value after it as one hexadecimal digit
+unfoldable pub nakMark : Edition → ℕ → List ℕ
+nakMark Old value = letterN ∷ []
+nakMark Ev1 value = letterN ∷ hexDigit (value % 16) ∷ []
+
 -- what an answer shows: A, N, - or the reply
-unfoldable pub markOf : Sign → List ℕ → List ℕ
-markOf Ack reply = letterA ∷ []
-markOf Nak reply = letterN ∷ []
-markOf Data reply = hexOf reply
-markOf Nothing reply = dash ∷ []
+unfoldable pub markOf : Edition → Sign → ℕ → List ℕ → List ℕ
+markOf edition Ack value reply = letterA ∷ []
+markOf edition Nak value reply = nakMark edition value
+markOf edition Data value reply = hexOf reply
+markOf edition Nothing value reply = dash ∷ []
 
 -- an event's number, its result and what it shows
-unfoldable pub eventLine : ℕ → Answer → List ℕ
-eventLine i a = decimalOf i ++ (space ∷ (decimalOf (a .number) ++ (space ∷ (markOf (a .sign) (a .reply) ++ (newline ∷ [])))))
+unfoldable pub eventLine : Edition → ℕ → CardAnswer → List ℕ
+eventLine edition i a =
+    decimalOf i ++ (space ∷ (decimalOf (a .answer .number) ++ (space ∷ (markOf edition (a .answer .sign) (a .nak) (a .answer .reply) ++ (newline ∷ [])))))
 
-unfoldable pub eventLines : ℕ → List Answer → List ℕ
-eventLines i [] = []
-eventLines i (a ∷ rest) = eventLine i a ++ eventLines (i + 1) rest
+unfoldable pub eventLines : Edition → ℕ → List CardAnswer → List ℕ
+eventLines edition i [] = []
+eventLines edition i (a ∷ rest) = eventLine edition i a ++ eventLines edition (i + 1) rest
 
 -- `block`, its address and its bytes
 unfoldable pub blockLine : ℕ → List ℕ → List ℕ
@@ -52,16 +63,20 @@ changedFrom old new zero b = []
 changedFrom old new (suc n) b = changeLine old new b ++ changedFrom old new n (b + 1)
 
 -- a lawful script: the header, a line for each event of its run, and the blocks that differ at the end
-unfoldable pub playedOf : List ℕ → List Sent → List ℕ
-playedOf script events =
+unfoldable pub playedOf : CardRecord → List ℕ → List Sent → List ℕ
+playedOf k script events =
     headerLine (imageSize script) (eventCount script)
-    ++ (eventLines 1 (answersOf (begin (imagePart script)) events)
-    ++ changedFrom (imagePart script) (runOf (begin (imagePart script)) events .image) (blocksOf (imageSize script)) 0)
+    ++ (eventLines (k .edition) 1 (answersOf (begin k (imagePart script)) events)
+    ++ changedFrom (imagePart script) (runOf (begin k (imagePart script)) events .image) (blocksOf (imageSize script)) 0)
 
-unfoldable pub printed : List ℕ → Reading → List ℕ
-printed script (lawful events) = playedOf script (eventsIn (lawful events))
-printed script (refused n) = refusalLine n
+unfoldable pub printed : CardRecord → List ℕ → Reading → List ℕ
+printed k script (lawful events) = playedOf k script (eventsIn (lawful events))
+printed k script (refused n) = refusalLine n
 
--- the whole printout of any script
+-- the whole printout of any script, on an old card
 unfoldable pub printoutOf : List ℕ → List ℕ
-printoutOf script = printed script (readingOf script)
+printoutOf script = printed oldCard script (readingOf script)
+
+-- and on an EV1, with the choice that its script names
+unfoldable pub ev1PrintoutOf : List ℕ → List ℕ
+ev1PrintoutOf script = printed (ev1CardOf script) script (ev1ReadingOf script)

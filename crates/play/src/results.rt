@@ -1,12 +1,12 @@
-// An answer as eighteen bytes.
+// An answer as eighteen bytes, or as nineteen.
 ghost use mathlib.Core.Path.{_≡_};
 ghost use Prim.Native.Nat.{_+_, _≤_};
 ghost use lib.ListN.{length};
 ghost use Rattle.play.specs.Text.{Put};
-ghost use Rattle.play.specs.Results.{resultOf};
+ghost use Rattle.play.specs.Results.{resultOf, cardResultOf};
 use crate::text::put;
 use crate::text::put_byte;
-use card::Answer;
+use either::CardAnswer;
 
 fn put_reply(out: &mut [u8], at: usize, reply: [u8; 16]) -> usize
     requires { ⌜ at + 16 ≤ length (now out) ⌝ }
@@ -16,15 +16,32 @@ fn put_reply(out: &mut [u8], at: usize, reply: [u8; 16]) -> usize
     put(out, at, &reply)
 }
 
-pub(crate) fn put_result(out: &mut [u8], at: usize, a: Answer) -> usize
+pub(crate) fn put_result(out: &mut [u8], at: usize, a: CardAnswer) -> usize
     requires { ⌜ at + 18 ≤ length (now out) ⌝ }
     ensures { λ r. ⌜ Put (now (out .entry)) at (resultOf a) (now (out .exit)) r ⌝ }
     ensures { λ r. ⌜ r ≤ at + 18 ⌝ }
 {
-    let number = a.number;
-    let sign = a.sign;
-    let reply = a.reply;
+    let answer = a.answer;
+    let number = answer.number;
+    let sign = answer.sign;
+    let reply = answer.reply;
     let second = put_byte(out, at, number);
     let third = put_byte(out, second, card::sign_code(sign));
     put_reply(out, third, reply)
+}
+
+pub(crate) fn put_card_result(out: &mut [u8], at: usize, a: CardAnswer) -> usize
+    requires { ⌜ at + 19 ≤ length (now out) ⌝ }
+    ensures { λ r. ⌜ Put (now (out .entry)) at (cardResultOf a) (now (out .exit)) r ⌝ }
+    ensures { λ r. ⌜ r ≤ at + 19 ⌝ }
+{
+    let answer = a.answer;
+    let number = answer.number;
+    let sign = answer.sign;
+    let reply = answer.reply;
+    let nak = a.nak;
+    let second = put_byte(out, at, number);
+    let third = put_byte(out, second, card::sign_code(sign));
+    let fourth = put_byte(out, third, nak);
+    put_reply(out, fourth, reply)
 }

@@ -75,7 +75,7 @@ fn high_digit(b: u8) -> u8
     hex_digit(b / 16)
 }
 
-fn low_digit(b: u8) -> u8
+pub(crate) fn low_digit(b: u8) -> u8
     ensures { λ r. ⌜ r ≡ hexDigit (b % 16) ⌝ }
 {
     hex_digit(b % 16)

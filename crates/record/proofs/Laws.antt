@@ -91,3 +91,12 @@ module _ (bytes : List ℕ) where
       go : (t : Bool) → isRecord bytes ≡ t → valueBits (sessionIn (cond t (found.Session (namedBy bytes)) found.Nothing) .register) < 4294967296
       go true e = either (eqb (getD bytes 4 0) 1) (value-small e)
       go false e = omega arith
+
+  -- the session of twelve bytes, by what was found in them
+  pub session-found : (s : Session) → foundIn bytes ≡ found.Session s → sessionFrom bytes ≡ s
+  unfolding sessionFrom
+  session-found s e = rw e
+
+  pub session-missing : foundIn bytes ≡ found.Nothing → sessionFrom bytes ≡ strayOf
+  unfolding sessionFrom
+  session-missing e = rw e

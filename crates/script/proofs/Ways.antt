@@ -8,8 +8,10 @@ use native.Mathlib.Omega.{arith}
 use lib.Dec.{ltb}
 use lib.ListN.{length, getD, take, drop}
 use borrow.Author.Tests.{lt-ltb, le-ltb, le-leb, lt-leb, eq-eqb, ne-eqb}
+use Rattle.edition.specs.declared.Edition.{Edition}
+use Rattle.script.specs.declared.Walked.{Walked}
 use Rattle.script.specs.declared.Walked.the-variants.{To, Stopped}
-use Rattle.script.specs.Script.{lawful, refused, refusalIn, imageSize, imagePart, eventRefusal, Walk, walked, stopped, frameAt, nextAt, before, eventsFrom, endedAt, placeOf, endRefusal}
+use Rattle.script.specs.Script.{lawful, refused, refusalIn, imageSize, imagePart, eventCount, eventsStart, eventRefusal, Walk, walked, stopped, frameAt, nextAt, before, eventsFrom, noSize, bodyOf, endedAt, placeOf, endRefusal}
 
 module _ (script : List ℕ) where
   pub image-whole : (size : ℕ) (part : List ℕ) → size ≡ imageSize script → 2 + size ≤ length script → part ≡ take (2 + size - 2) (drop 2 script) → part ≡ imagePart script
@@ -56,6 +58,41 @@ module _ (script : List ℕ) (at : ℕ) where
   pub all-walked : (left : ℕ) → left ≤ 0 → To at ≡ placeOf (eventsFrom script left at)
   unfolding eventsFrom placeOf
   all-walked left none = let nothing : left ≡ 0 = omega arith in rw nothing
+
+-- the refusals on the way to the events, in the words of the code's tests
+module _ (edition : Edition) (script : List ℕ) where
+  abbrev Body : Walked → Type 0
+  Body r = r ≡ placeOf (bodyOf edition script)
+
+  pub too-short : length script < 2 → Body (Stopped 20)
+  unfolding bodyOf placeOf
+  too-short h = rw (lt-ltb (length script) 2 h)
+
+  module _ (counted : 2 ≤ length script) (t : Bool) (sized : t ≡ noSize edition (imageSize script)) where
+    pub foreign-size : t ≡ true → Body (Stopped 21)
+    unfolding bodyOf placeOf
+    foreign-size e = rw (le-ltb (length script) 2 counted, ← sized, e)
+
+    module _ (known : t ≡ false) where
+      pub no-image : length script < 2 + imageSize script → Body (Stopped 20)
+      unfolding bodyOf placeOf
+      no-image h = rw (le-ltb (length script) 2 counted, ← sized, known, lt-ltb (length script) (2 + imageSize script) h)
+
+      module _ (imaged : 2 + imageSize script ≤ length script) where
+        pub no-count : length script < 4 + imageSize script → Body (Stopped 20)
+        unfolding bodyOf placeOf
+        no-count h = rw (le-ltb (length script) 2 counted, ← sized, known, le-ltb (length script) (2 + imageSize script) imaged, lt-ltb (length script) (4 + imageSize script) h)
+
+        module _ (told : 4 + imageSize script ≤ length script) where
+          pub too-many : 1000 < eventCount script → Body (Stopped 22)
+          unfolding bodyOf placeOf
+          too-many h =
+              rw (le-ltb (length script) 2 counted, ← sized, known, le-ltb (length script) (2 + imageSize script) imaged, le-ltb (length script) (4 + imageSize script) told, lt-ltb 1000 (eventCount script) h)
+
+          pub all-events : eventCount script ≤ 1000 → Body (placeOf (eventsFrom script (eventCount script) (eventsStart script)))
+          unfolding bodyOf
+          all-events h =
+              rw (le-ltb (length script) 2 counted, ← sized, known, le-ltb (length script) (2 + imageSize script) imaged, le-ltb (length script) (4 + imageSize script) told, le-ltb 1000 (eventCount script) h)
 
 -- what is refused at the end is what the reading is refused for
 pub end-reading : (script : List ℕ) (w : Walk) → endRefusal (length script) (placeOf w) ≡ refusalIn (endedAt script w)

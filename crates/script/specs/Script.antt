@@ -1,10 +1,13 @@
 -- The script format: an image and the events to play on it, each section after its count. It is judged as a whole, in reading order.
-use mathlib.Core.Bool.{cond}
+use mathlib.Core.Bool.{Bool, cond, _||_}
 use mathlib.Core.List.{List, [], _∷_}
 use Prim.Native.Nat.{ℕ, zero, suc, _+_, _*_}
 use lib.Dec.{eqb, ltb, leb}
 use lib.ListN.{length, getD, take, drop}
 use Rattle.layout.specs.Layout.{sectorsOf}
+use Rattle.edition.specs.Edition.{wrongSize}
+use Rattle.edition.specs.declared.Edition.{Edition}
+use Rattle.edition.specs.declared.Edition.the-variants.{Old}
 use Rattle.script.specs.declared.Walked.{Walked}
 use Rattle.script.specs.declared.Walked.the-variants.{To, Stopped}
 
@@ -64,20 +67,27 @@ eventsFrom script zero at = walked [] at
 eventsFrom script (suc n) at =
     cond (eqb (eventRefusal script at) 0) (before (frameAt script at) (eventsFrom script n (nextAt script at))) (stopped (eventRefusal script at))
 
+-- the script up to the last event, for a card of some edition: 20 again, 21 no such card has an image of that size, 22 more than a thousand events are claimed
+unfoldable pub noSize : Edition → ℕ → Bool
+noSize edition size = wrongSize edition size || eqb (sectorsOf size) 0
+
+unfoldable pub bodyOf : Edition → List ℕ → Walk
+bodyOf edition script =
+    cond (ltb (length script) 2) (stopped 20)
+    (cond (noSize edition (imageSize script)) (stopped 21)
+    (cond (ltb (length script) (2 + imageSize script)) (stopped 20)
+    (cond (ltb (length script) (4 + imageSize script)) (stopped 20)
+    (cond (ltb 1000 (eventCount script)) (stopped 22)
+    (eventsFrom script (eventCount script) (eventsStart script))))))
+
 -- and then the end: 24 something is left over
 unfoldable pub endedAt : List ℕ → Walk → Reading
 endedAt script (walked events place) = cond (ltb place (length script)) (refused 24) (lawful events)
 endedAt script (stopped n) = refused n
 
--- the whole script: 20 again, 21 no card has an image of that size, 22 more than a thousand events are claimed
+-- the whole script of an old card
 unfoldable pub readingOf : List ℕ → Reading
-readingOf script =
-    cond (ltb (length script) 2) (refused 20)
-    (cond (eqb (sectorsOf (imageSize script)) 0) (refused 21)
-    (cond (ltb (length script) (2 + imageSize script)) (refused 20)
-    (cond (ltb (length script) (4 + imageSize script)) (refused 20)
-    (cond (ltb 1000 (eventCount script)) (refused 22)
-    (endedAt script (eventsFrom script (eventCount script) (eventsStart script)))))))
+readingOf script = endedAt script (bodyOf Old script)
 
 -- what is left of a walk when its events are not kept, and its refusal; 0 where there is none
 unfoldable pub placeOf : Walk → Walked

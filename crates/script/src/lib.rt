@@ -2,7 +2,13 @@
 ghost use mathlib.Core.Path.{_≡_};
 ghost use Prim.Native.Nat.{_<_};
 ghost use lib.ListN.{getD};
-ghost use Rattle.script.specs.Script.{refusalIn, countAt, imageSize, imagePart, eventCount, eventsStart, eventRefusal, nextAt, eventsFrom, readingOf, placeOf, endRefusal};
+ghost use Rattle.script.specs.Script.{refusalIn, countAt, imageSize, imagePart, eventCount, eventsStart, eventRefusal, nextAt, eventsFrom, noSize, bodyOf, readingOf, placeOf, endRefusal};
+
+mod lock;
+
+use edition::Edition;
+pub use lock::Ev1Script;
+pub use lock::ev1_script;
 
 // A byte of the script; 0 past its end.
 fn byte_at(script: &[u8], at: usize) -> usize
@@ -114,27 +120,41 @@ fn end_refusal(len: usize, end: Walked) -> u8
     }
 }
 
-// The refusal that is met first in the script; 0 for a lawful one.
-pub fn refusal_of(script: &[u8]) -> u8
-    ensures { λ r. ⌜ r ≡ refusalIn (readingOf (now (script .entry))) ⌝ }
+// No card of this edition has an image of so many bytes.
+fn is_no_size(edition: Edition, size: usize) -> bool
+    ensures { λ r. ⌜ r ≡ noSize edition size ⌝ }
+{
+    edition::is_wrong_size(edition, size) | (layout::sectors_of(size) == 0)
+}
+
+// The script up to the last event.
+fn body(edition: Edition, script: &[u8]) -> Walked
+    ensures { λ r. ⌜ r ≡ placeOf (bodyOf edition (now (script .entry))) ⌝ }
 {
     let len = script.len();
     if len < 2 {
-        return 20;
+        return Walked::Stopped(20);
     }
     let size = image_size(script);
-    if layout::sectors_of(size) == 0 {
-        return 21;
+    if is_no_size(edition, size) {
+        return Walked::Stopped(21);
     }
     if len < 2 + size {
-        return 20;
+        return Walked::Stopped(20);
     }
     if len < 4 + size {
-        return 20;
+        return Walked::Stopped(20);
     }
     let count = event_count(script);
     if 1000 < count {
-        return 22;
+        return Walked::Stopped(22);
     }
-    end_refusal(len, walk(script, count, events_start(script)))
+    walk(script, count, events_start(script))
+}
+
+// The refusal that is met first in the script of an old card; 0 for a lawful one.
+pub fn refusal_of(script: &[u8]) -> u8
+    ensures { λ r. ⌜ r ≡ refusalIn (readingOf (now (script .entry))) ⌝ }
+{
+    end_refusal(script.len(), body(Edition::Old, script))
 }

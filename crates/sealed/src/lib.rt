@@ -19,7 +19,7 @@ pub struct SealedAnswer {
 }
 
 // Does the frame pass 14?
-fn is_sealed(frame: &[u8]) -> bool
+pub fn is_sealed(frame: &[u8]) -> bool
     ensures { λ r. ⌜ r ≡ not (unsealed (now (frame .entry))) ⌝ }
 {
     if frame.len() < 3 {
@@ -31,7 +31,7 @@ fn is_sealed(frame: &[u8]) -> bool
 }
 
 // The refusal of a frame that does not: 11 and 12 come first.
-fn first_refusal(image: &[u8], s: Session) -> u8
+pub fn first_refusal(image: &[u8], s: Session) -> u8
     ensures { λ r. ⌜ first (frameChecks (now (image .entry)) s ++ (check 14 true ∷ [])) ≡ refuses r ⌝ }
 {
     if layout::sectors_of(image.len()) == 0 {
@@ -68,7 +68,7 @@ fn reply_of(sign: Sign, reply: [u8; 16]) -> [u8; 18]
     }
 }
 
-fn sealed(a: Answer) -> SealedAnswer
+pub fn sealed(a: Answer) -> SealedAnswer
     ensures { λ r. ⌜ r ≡ sealedOf a ⌝ }
 {
     let number = a.number;

@@ -49,7 +49,7 @@ pub fn fresh() -> Session
     FRESH
 }
 
-fn is_idle(stage: Stage) -> bool
+pub fn is_idle(stage: Stage) -> bool
     ensures { λ r. ⌜ r ≡ isIdle stage ⌝ }
 {
     match stage {

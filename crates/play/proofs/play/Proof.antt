@@ -1,48 +1,28 @@
--- A refused script prints its one line, a lawful one is run.
-use mathlib.Core.Path.{refl, _∙_, sym}
-use Rattle.play.proofs.Whole.{refusal-printed, space-fits, finished}
+-- The old script, on an old card.
+use Rattle.play.specs.Run.{readingFor}
+use Rattle.play.specs.Printout.{printoutOf}
 use borrow.Author.Needs.{needs}
 use Rattle.play.proofs.play.Statement.{statement}
 use Rattle.play.proofs.play.Tie as tie
+use Rattle.play.proofs.play.Reads as reads
+use Rattle.play.proofs.play.Lts as lts
+use Rattle.edition.proofs.old_card.Reads as old-card-reads
+use Rattle.play.proofs.print.Reads as print-reads
+use Rattle.script.proofs.refusal_of.Reads as refusal-of-reads
 
 refusal-of-requires : tie.Need-refusal-of-requires
 refusal-of-requires c κs = search needs
 
-put-refusal-requires : tie.Need-put-refusal-requires
-put-refusal-requires c κs = search needs
+old-card-requires : tie.Need-old-card-requires
+old-card-requires c κs = search needs
+
+print-requires : tie.Need-print-requires
+unfolding readingFor
+print-requires c κs = rw (c .before .old-card .ensures) (c .before .before .refusal-of .ensures)
 
 returns : tie.Need-returns
-returns c = finished _ _ _ _ _ (refusal-printed _ _ (c .before .before .before .refusal-of .ensures) (c .before .before .if1 .taken)) (c .put-refusal .ensures)
-
-image-size-requires : tie.Need-image-size-requires
-image-size-requires c κs = search needs
-
-blank-requires : tie.Need-blank-requires
-blank-requires c κs = search needs
-
-array-borrow-prefix-space : tie.Need-array-borrow-prefix-space
-array-borrow-prefix-space c = space-fits (c .before .before .before .before .before .args .script .now) (sym (c .before .before .before .refusal-of .ensures) ∙ c .before .before .if1 .left) (c .before .image-size .result) (c .blank .result) (c .before .image-size .ensures .0) (c .blank .ensures) .0
-
-slice-aggregate-put-run : tie.Need-slice-aggregate-put-run
-slice-aggregate-put-run c = sym (space-fits (c .before .before .before .before .before .before .args .script .now) (sym (c .before .before .before .before .refusal-of .ensures) ∙ c .before .before .before .if1 .left) (c .before .before .image-size .result) (c .before .blank .result) (c .before .before .image-size .ensures .0) (c .before .blank .ensures) .1)
-
-put-run-requires : tie.Need-put-run-requires
-put-run-requires c κs = let h = sym (c .before .before .before .before .before .refusal-of .ensures) ∙ c .before .before .before .before .if1 .left in
-    (h, space-fits _ h _ _ (c .before .before .before .image-size .ensures .0) (c .before .before .blank .ensures) .1 ∙ c .before .before .before .image-size .ensures .0, search needs)
-
-returns-2 : tie.Need-returns-2
-returns-2 c = finished _ _ _ _ _ refl (c .before .put-run .ensures)
+unfolding readingFor printoutOf
+returns c = rw (c .before .before .old-card .ensures) at (c .print .ensures)
 
 pub play-spec : {M : Type 1} → statement M
-play-spec =
-    tie.close
-    (tie.spec
-    refusal-of-requires
-    put-refusal-requires
-    returns
-    image-size-requires
-    blank-requires
-    array-borrow-prefix-space
-    slice-aggregate-put-run
-    put-run-requires
-    returns-2)
+play-spec = tie.close (tie.spec refusal-of-requires old-card-requires print-requires returns)

@@ -6,6 +6,10 @@ use Rattle.play.specs.Run.{sentOf}
 use borrow.Author.Needs.{needs}
 use Rattle.play.proofs.events.event.Statement.{statement}
 use Rattle.play.proofs.events.event.Tie as tie
+use Rattle.play.proofs.events.event.Reads as reads
+use Rattle.play.proofs.events.event.Lts as lts
+use Rattle.either.proofs.field_reset.Reads as field-reset-reads
+use Rattle.either.proofs.step.Reads as step-reads
 
 field-reset-requires : tie.Need-field-reset-requires
 field-reset-requires c κs = search needs

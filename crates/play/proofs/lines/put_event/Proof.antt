@@ -5,6 +5,11 @@ use Rattle.play.proofs.Put.{then}
 use borrow.Author.Needs.{needs}
 use Rattle.play.proofs.lines.put_event.Statement.{statement}
 use Rattle.play.proofs.lines.put_event.Tie as tie
+use Rattle.play.proofs.lines.put_event.Reads as reads
+use Rattle.play.proofs.lines.put_event.Lts as lts
+use Rattle.play.proofs.lines.put_mark.Reads as put-mark-reads
+use Rattle.play.proofs.text.put_byte.Reads as put-byte-reads
+use Rattle.play.proofs.text.put_decimal.Reads as put-decimal-reads
 
 put-decimal-requires : tie.Need-put-decimal-requires
 put-decimal-requires c κs = search needs

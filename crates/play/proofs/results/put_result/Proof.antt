@@ -5,6 +5,11 @@ use Rattle.play.proofs.Put.{then}
 use borrow.Author.Needs.{needs}
 use Rattle.play.proofs.results.put_result.Statement.{statement}
 use Rattle.play.proofs.results.put_result.Tie as tie
+use Rattle.play.proofs.results.put_result.Reads as reads
+use Rattle.play.proofs.results.put_result.Lts as lts
+use Rattle.card.proofs.sign_code.Reads as sign-code-reads
+use Rattle.play.proofs.results.put_reply.Reads as put-reply-reads
+use Rattle.play.proofs.text.put_byte.Reads as put-byte-reads
 
 put-byte-requires : tie.Need-put-byte-requires
 put-byte-requires c κs = search needs

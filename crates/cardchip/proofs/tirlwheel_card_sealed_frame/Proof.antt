@@ -1,0 +1,78 @@
+-- By what the four bytes hold.
+use mathlib.Core.Path.{refl, sym, _∙_, ap}
+use Rattle.sealed.specs.Sealed.{sealedOf}
+use Rattle.cardchip.specs.CardChip.{cardSealedOf, cardSealedImage}
+use borrow.Author.Needs.{needs}
+use Rattle.cardchip.proofs.tirlwheel_card_sealed_frame.Statement.{statement}
+use Rattle.cardchip.proofs.tirlwheel_card_sealed_frame.Tie as tie
+use Rattle.cardchip.proofs.tirlwheel_card_sealed_frame.Reads as reads
+use Rattle.cardchip.proofs.tirlwheel_card_sealed_frame.Lts as lts
+use Rattle.card.proofs.refusal.Reads as refusal-reads
+use Rattle.cardchip.proofs.answer.Reads as answer-reads
+use Rattle.cardchip.proofs.give.Reads as give-reads
+use Rattle.edition.proofs.decode.Reads as decode-reads
+use Rattle.edition.proofs.encode.Reads as encode-reads
+use Rattle.sealed.proofs.sealed.Reads as sealed-reads
+
+decode-requires : tie.Need-decode-requires
+decode-requires c κs = search needs
+
+enum-known-k : tie.Need-enum-known-k
+enum-known-k c = search needs
+
+answer-requires : tie.Need-answer-requires
+answer-requires c κs = search needs
+
+encode-requires : tie.Need-encode-requires
+encode-requires c κs = search needs
+
+give-requires : tie.Need-give-requires
+give-requires c κs = search needs
+
+enum-told : tie.Need-enum-told
+enum-told c = search needs
+
+refusal-requires : tie.Need-refusal-requires
+refusal-requires c κs = search needs
+
+sealed-requires : tie.Need-sealed-requires
+sealed-requires c κs = search needs
+
+give-requires-2 : tie.Need-give-requires-2
+give-requires-2 c κs = search needs
+
+same-length : tie.Need-same-length
+same-length c = search needs
+
+returns : tie.Need-returns
+unfolding cardSealedOf cardSealedImage
+returns c =
+    let e = sym (c .before .before .before .before .before .before .before .before .before .before .before .before .before .before .decode .ensures) ∙ c .before .before .before .before .before .before .before .before .before .before .before .before .k .given .1 in
+    let a = c .before .before .before .before .before .before .before .before .answer .ensures in
+    let g = c .give .ensures in
+    rw (e, ← (a .0)) (g .0, (c .before .before .before .encode .ensures, (g .1 .0, (g .1 .1, a .1))))
+
+returns-2 : tie.Need-returns-2
+unfolding cardSealedOf cardSealedImage
+returns-2 c =
+    let e = sym (c .before .before .before .before .before .before .before .decode .ensures) ∙ c .before .before .before .before .before .enum-told .given .1 in
+    let refused = c .before .before .before .sealed .ensures ∙ ap sealedOf (c .before .before .before .before .refusal .ensures) in
+    let g = c .give2 .ensures in
+    rw e (g .0 ∙ rw refused, (refl, (g .1 .0 ∙ rw refused, (g .1 .1 ∙ rw refused, refl))))
+
+pub tirlwheel-card-sealed-frame-spec : {M : Type 1} → statement M
+tirlwheel-card-sealed-frame-spec =
+    tie.close
+    (tie.spec
+    decode-requires
+    enum-known-k
+    answer-requires
+    encode-requires
+    give-requires
+    enum-told
+    refusal-requires
+    sealed-requires
+    give-requires-2
+    same-length
+    returns
+    returns-2)

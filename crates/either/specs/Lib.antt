@@ -1,0 +1,4 @@
+pub mod Nak
+pub mod Personal
+pub mod Either
+pub mod Code
