@@ -27,6 +27,7 @@ pub mod OneEdge
 pub mod OneCardEdge
 pub mod OneDirectory
 pub mod OneMend
+pub mod OneTally
 pub mod OneDesk
 pub mod Boundary
 pub mod CardBoundary

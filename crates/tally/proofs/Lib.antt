@@ -1,0 +1,4 @@
+pub mod Bits
+pub mod Shares
+pub mod Laws
+pub mod Ways

@@ -1,0 +1,4 @@
+pub mod Whole
+pub mod Change
+pub mod Full
+pub mod Laws
