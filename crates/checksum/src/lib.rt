@@ -8,13 +8,11 @@ mod table;
 pub fn crc_a(bytes: &[u8]) -> u16
     ensures { λ r. ⌜ r ≡ crcOf (now (bytes .entry)) ⌝ }
 {
-    let table = table::table();
     let mut c: u16 = 0x6363;
     let mut i = 0;
     while i < bytes.len() {
         let x = c ^ (bytes[i] as u16);
-        let low = (x % 256) as usize;
-        c = (x / 256) ^ table[low];
+        c = (x / 256) ^ table::entry((x % 256) as u8);
         i += 1;
     }
     c

@@ -10,13 +10,10 @@ use Rattle.checksum.proofs.crc_a.Statement.{statement}
 use Rattle.checksum.proofs.crc_a.Tie as tie
 
 abbrev Inv-loop : tie.InvT-loop
-Inv-loop bytes table c₀ i₀ c i = (i ≤ length bytes) × (bytesOn c (drop i bytes) ≡ crcOf bytes)
+Inv-loop bytes c₀ i₀ c i = (i ≤ length bytes) × (bytesOn c (drop i bytes) ≡ crcOf bytes)
 
 abbrev μ-loop : tie.MeasureT-loop
-μ-loop bytes table c₀ i₀ c i = length bytes - i
-
-table-requires : tie.Need-table-requires Inv-loop μ-loop
-table-requires c κs = search needs
+μ-loop bytes c₀ i₀ c i = length bytes - i
 
 loop-holds : tie.Need-loop-holds Inv-loop μ-loop
 unfolding crcOf
@@ -28,14 +25,11 @@ shared-slice-read-x c = search needs
 cast-x : tie.Need-cast-x Inv-loop μ-loop
 cast-x c = omega (arith, c .shared-slice-known2 .given (c .before .before .loop .i))
 
-cast-low : tie.Need-cast-low Inv-loop μ-loop
-cast-low c = search needs
+cast-entry : tie.Need-cast-entry Inv-loop μ-loop
+cast-entry c = search needs
 
-mul-c : tie.Need-mul-c Inv-loop μ-loop
-mul-c c = search needs
-
-array-read-c : tie.Need-array-read-c Inv-loop μ-loop
-array-read-c c = search needs
+entry-requires : tie.Need-entry-requires Inv-loop μ-loop
+entry-requires c κs = search needs
 
 add-i : tie.Need-add-i Inv-loop μ-loop
 add-i c = search needs
@@ -44,14 +38,15 @@ loop-less : tie.Need-loop-less Inv-loop μ-loop
 loop-less c = search needs
 
 loop-again : tie.Need-loop-again Inv-loop μ-loop
-loop-again c = let at = c .before .before .loop in
-    (search needs, turn _ _ (at .c) (at .i) (c .before .before .before .table .ensures) (search needs) ∙ at .inv .1)
+loop-again c =
+    let at = c .before .before .before .loop in
+    (search needs, turn _ (at .c) (at .i) _ (c .entry .ensures) (search needs) ∙ at .inv .1)
 
 returns : tie.Need-returns Inv-loop μ-loop
 unfolding bytesOn
 returns c =
     let at = c .before .loop in
-    let bytes = c .before .before .before .before .args .bytes .now in
+    let bytes = c .before .before .before .args .bytes .now in
     let end : length bytes ≤ at .i = search needs in
     rw (drop-of-length-le bytes end) at (at .inv .1)
 
@@ -61,13 +56,11 @@ crc-a-spec =
     (tie.spec
     Inv-loop
     μ-loop
-    table-requires
     loop-holds
     shared-slice-read-x
     cast-x
-    cast-low
-    mul-c
-    array-read-c
+    cast-entry
+    entry-requires
     add-i
     loop-less
     loop-again
