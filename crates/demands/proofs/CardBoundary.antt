@@ -5,10 +5,12 @@ use mathlib.Core.List.{List, [], _∷_}
 use Prim.Native.Nat.{ℕ}
 use native.Mathlib.Omega.{arith}
 use base.Fml.{Lft}
-use lib.ListN.{replicate}
+use lib.ListN.{length, replicate}
 use denote.Ref.{RefT}
+use Rattle.session.specs.Session.{freshOf}
 use Rattle.session.specs.declared.Session.{Session}
 use Rattle.card.specs.Effects.{refusedSign}
+use Rattle.card.specs.declared.Sign.the-variants.{Nothing}
 use Rattle.sealed.specs.Sealed.{sealedReply, sealedOf}
 use Rattle.record.specs.Record.{recordOf}
 use Rattle.record.proofs.Laws.{reads-back}
@@ -92,7 +94,12 @@ module _ (κ₀ κ₁ κ₂ κ₃ κ₄ : Lft) (image card session frame reply :
   card-sealed-owed m = rw (m .0, m .1 .0, m .1 .1 .0, m .1 .1 .1 .0, m .1 .1 .1 .1) (sealed-owed (image .now) (card .now) (session .now) (frame .now) (foundIn (card .now)))
 
 -- a field reset is told no image, and leaves the four bytes as they are
-pub card-reset-owed : (κ₀ κ₁ κ₂ : Lft) (image : List ℕ) (card session reply : RefT (List ℕ)) (r : ℕ) (s p : List ℕ) (k : CardRecord) → foundIn (card .now) ≡ found.Card k
-    → CardResetMeets κ₀ κ₁ κ₂ card session reply r s p → gave r image (recordBytes k) s p ≡ cardGiven (record { image = image; card = card .now; bytes = session .now }) reset
+pub card-reset-owed : (κ₀ κ₁ κ₂ : Lft) (image : List ℕ) (card session reply : RefT (List ℕ)) (r : ℕ) (s p : List ℕ) → length (card .now) ≡ 4
+    → CardResetMeets κ₀ κ₁ κ₂ card session reply r s p → gave r image (card .now) s p ≡ cardGiven (record { image = image; card = card .now; bytes = session .now }) reset
 unfolding answerTo imageUpon
-card-reset-owed κ₀ κ₁ κ₂ image card session reply r s p k e m = rw (e, m .0, m .1 .0, m .1 .1)
+card-reset-owed κ₀ κ₁ κ₂ image card session reply r s p four m = rw (m .0, m .1 .0, m .1 .1) (go (foundIn (card .now)) refl)
+  where
+    go : (f : Found) → foundIn (card .now) ≡ f
+        → gave (packedWith 0 Nothing 0) image (card .now) (recordOf freshOf) (replicate 16 0) ≡ cardGivenFor f (record { image = image; card = card .now; bytes = session .now }) reset
+    go (found.Card k) e = rw (found-writes (card .now) k four e)
+    go found.Nothing e = rw (zeros-are-fresh .1)
