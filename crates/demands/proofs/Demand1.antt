@@ -46,8 +46,7 @@ use Rattle.edition.specs.declared.CardRecord.{CardRecord}
 use Rattle.either.specs.Personal.{isPersonal, readZero, choosing, acknowledged}
 use Rattle.either.specs.Either.{cardActOf, sealedCardActOf, givenFor, cardAnswerOf, cardImageAfter, sealedCardOf, sealedCardAnswerOf, sealedCardImageAfter}
 use Rattle.either.specs.Code.{givenOf}
-use Rattle.either.proofs.Laws.{personal-idle, refusal-given}
-use Rattle.laws.proofs.Keeps.{read-command}
+use Rattle.either.proofs.Laws.{read-command, personal-idle, refusal-given}
 use Rattle.runs.specs.Run.{State, Sent, reset, bare, sealed, answerTo, imageUpon, actOf}
 use Rattle.demands.specs.Demand1.{Wanted, shared, personalize, Row, row, anyFrame, noUsage, isLocked, noCardFor, commandRows, table, wantedOf, asked, Met, here, below, owedFor, Demand1}
 

@@ -6,9 +6,12 @@ use Prim.Native.Nat.{ℕ}
 use base.Fml.{Lft}
 use denote.Ref.{RefT, at-last}
 use Rattle.session.specs.declared.Session.{Session}
+use Rattle.judge.specs.declared.Act.{Act}
 use Rattle.edition.specs.declared.CardRecord.{CardRecord}
 use Rattle.either.specs.declared.CardAnswer.{CardAnswer}
 use Rattle.either.specs.declared.sealing.SealedCardAnswer.{SealedCardAnswer}
+use Rattle.either.proofs.judge.Reads as judge-contract
+use Rattle.either.proofs.enact.Reads as enact-contract
 use Rattle.either.proofs.step.Reads as step-contract
 use Rattle.either.proofs.field_reset.Reads as field-reset-contract
 use Rattle.either.proofs.no_session.Reads as no-session-contract
@@ -18,6 +21,16 @@ use Rattle.demands.specs.One.{OneResult}
 use Rattle.demands.proofs.Exact.{exact}
 
 module _ (κ κ′ : Lft) (image : RefT (List ℕ)) (k : CardRecord) (s : Session) (frame : RefT (List ℕ)) where
+  pub judge : OneResult (λ r. judge-contract.Post (κ, (κ′, tt)) (image, (k, (s, (frame, tt)))) r (image, (k, (s, (frame, tt)))))
+  judge = exact
+
+  -- what an act does: an answer, and the image behind the reference afterwards
+  abbrev EnactMeets : Act → CardAnswer → List ℕ → Type 0
+  EnactMeets act r last = enact-contract.Post (κ, (κ′, tt)) (image, (k, (s, (act, (frame, tt))))) r (at-last image last, (k, (s, (act, (frame, tt)))))
+
+  pub enact : (act : Act) (r r′ : CardAnswer) (last last′ : List ℕ) → EnactMeets act r last → EnactMeets act r′ last′ → (r ≡ r′) × (last ≡ last′)
+  enact act r r′ last last′ p q = (p .0 ∙ sym (q .0), p .1 ∙ sym (q .1))
+
   -- an answer, and the image behind the reference afterwards
   abbrev Meets : CardAnswer → List ℕ → Type 0
   Meets r last = step-contract.Post (κ, (κ′, tt)) (image, (k, (s, (frame, tt)))) r (at-last image last, (k, (s, (frame, tt))))

@@ -86,7 +86,7 @@ module _ (image : List ℕ) (k : CardRecord) (s : Session) (frame : List ℕ) wh
 
     pub without-seal : (n : ℕ) → t ≡ false
         → cond (wrongSize (k .edition) (length image)) (refuses 11) (first (frameChecks image s ++ (check 14 true ∷ []))) ≡ refuses n
-        → (givenOf k s (refusalOf n) ≡ givenFor image k s (innerOf frame) (sealedCardActOf image k s frame)) × (image ≡ sealedCardImageAfter image k s frame)
+        → (givenOf k (s .register) (refusalOf n) ≡ givenFor image k s (innerOf frame) (sealedCardActOf image k s frame)) × (image ≡ sealedCardImageAfter image k s frame)
     unfolding sealedCardImageAfter imageOf
     without-seal n e f =
         let r = refused-card-act n (not-false (unsealed frame) (sym asked ∙ e)) f in

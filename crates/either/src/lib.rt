@@ -1,6 +1,8 @@
 // A card of either edition, with its record.
 ghost use mathlib.Core.Path.{_≡_};
-ghost use Rattle.either.specs.Either.{cardAnswerOf, cardImageAfter, cardResetOf, cardNoSessionOf};
+ghost use Rattle.judge.specs.Code.{shortened};
+ghost use Rattle.card.specs.Effects.{imageOf};
+ghost use Rattle.either.specs.Either.{cardActOf, givenFor, cardAnswerOf, cardImageAfter, cardResetOf, cardNoSessionOf};
 ghost use Rattle.either.specs.Code.{givenOf};
 
 mod nak;
@@ -9,9 +11,11 @@ mod sealing;
 
 use card::Answer;
 use edition::CardRecord;
+use judge::Act;
 pub use sealing::SealedCardAnswer;
 pub use sealing::sealed_no_session;
 pub use sealing::sealed_step;
+use session::Register;
 use session::Session;
 
 // The answer, the value of its NAK (0 where there is none) and the record afterwards.
@@ -22,11 +26,10 @@ pub struct CardAnswer {
 }
 
 // A bare answer with the value of its NAK; the record is kept.
-fn given(k: CardRecord, s: Session, a: Answer) -> CardAnswer
-    ensures { λ r. ⌜ r ≡ givenOf k s a ⌝ }
+fn given(k: CardRecord, register: Register, a: Answer) -> CardAnswer
+    ensures { λ r. ⌜ r ≡ givenOf k register a ⌝ }
 {
     let edition = k.edition;
-    let register = s.register;
     let sign = a.sign;
     let number = a.number;
     let value = nak::nak_of(edition, register, sign, number);
@@ -37,23 +40,48 @@ fn given(k: CardRecord, s: Session, a: Answer) -> CardAnswer
     }
 }
 
+// What a frame does to a card with this record.
+pub fn judge(image: &[u8], k: CardRecord, s: Session, frame: &[u8]) -> Act
+    ensures { λ r. ⌜ r ≡ shortened (s .auth) (cardActOf (now (image .entry)) k s (now (frame .entry))) ⌝ }
+{
+    let edition = k.edition;
+    let choice = k.choice;
+    let stage = s.stage;
+    if edition::is_wrong_size(edition, image.len()) {
+        Act::Refused(11)
+    } else if personal::is_personal(edition, stage, frame) {
+        personal::choosing(
+            choice,
+            frame::byte(frame, 1),
+            personal::refusal_of(image, s),
+        )
+    } else {
+        judge::judge(image, s, frame)
+    }
+}
+
+// What an act of a frame does: the answer with its NAK's value, the record, and the image as it is afterwards.
+pub fn enact(image: &mut [u8], k: CardRecord, s: Session, act: Act, frame: &[u8]) -> CardAnswer
+    ensures { λ r. ⌜ r ≡ givenFor (now (image .entry)) k s (now (frame .entry)) act ⌝ }
+    ensures { λ _. ⌜ now (image .exit) ≡ imageOf (now (image .entry)) (s .auth) act (now (frame .entry)) ⌝ }
+{
+    let edition = k.edition;
+    let stage = s.stage;
+    let register = s.register;
+    let a = given(k, register, card::enact(image, s, act, frame));
+    if personal::is_personal(edition, stage, frame) {
+        return personal::acknowledged(a, frame::byte(frame, 1));
+    }
+    a
+}
+
 // Any image, any record, any session, any frame: the answer, and the image as it is afterwards.
 pub fn step(image: &mut [u8], k: CardRecord, s: Session, frame: &[u8]) -> CardAnswer
     ensures { λ r. ⌜ r ≡ cardAnswerOf (now (image .entry)) k s (now (frame .entry)) ⌝ }
     ensures { λ _. ⌜ now (image .exit) ≡ cardImageAfter (now (image .entry)) k s (now (frame .entry)) ⌝ }
 {
-    let edition = k.edition;
-    let stage = s.stage;
-    if edition::is_wrong_size(edition, image.len()) {
-        return given(k, s, card::refusal(11));
-    }
-    let personal = personal::is_personal(edition, stage, frame);
-    let read = [0x30u8, 0];
-    let a = card::step(image, s, personal::put_to(personal, &read[..], frame));
-    if personal {
-        return personal::personalized(k, s, a.number, frame::byte(frame, 1));
-    }
-    given(k, s, a)
+    let act = judge(&image[..], k, s, frame);
+    enact(image, k, s, act, frame)
 }
 
 // The reader's field went away and came back: always accepted; the record is kept.

@@ -48,11 +48,12 @@ pub fn sealed_step(image: &mut [u8], k: CardRecord, s: Session, frame: &[u8]) ->
     ensures { λ r. ⌜ r ≡ sealedCardAnswerOf (now (image .entry)) k s (now (frame .entry)) ⌝ }
     ensures { λ _. ⌜ now (image .exit) ≡ sealedCardImageAfter (now (image .entry)) k s (now (frame .entry)) ⌝ }
 {
+    let register = s.register;
     let a = if sealed::is_sealed(frame) {
         let end = frame.len() - 2;
         step(image, k, s, &frame[..end])
     } else {
-        given(k, s, card::refusal(first_refusal(k, &image[..], s)))
+        given(k, register, card::refusal(first_refusal(k, &image[..], s)))
     };
     sealed_card(a)
 }

@@ -12,7 +12,7 @@ use Rattle.layout.specs.Layout.{blockAt, isTrailer, trailerOf, sectorOf}
 use Rattle.session.specs.declared.Session.{Session}
 use Rattle.session.specs.declared.Stage.{Stage}
 use Rattle.session.specs.declared.Stage.the-variants.{Idle}
-use Rattle.frame.specs.Command.{byteIn, twoBytesOf, firstOf, commandOf}
+use Rattle.frame.specs.Command.{byteIn}
 use Rattle.frame.specs.declared.Command.the-variants.{Read}
 use Rattle.judge.specs.First.{Check, check, Outcome, passes, refuses, first, ruled}
 use Rattle.judge.specs.Checks.{noCard, incoherent, checksOf, frameChecks}
@@ -30,7 +30,7 @@ use Rattle.edition.specs.declared.Asked.the-variants.{For, Unknown}
 use Rattle.edition.specs.declared.CardRecord.{CardRecord}
 use Rattle.either.specs.Personal.{readZero, chosen, choosing}
 use Rattle.either.specs.Either.{personal, cardActOf, sealedCardActOf, givenFor, cardAnswerOf, sealedCardOf, sealedCardAnswerOf}
-use Rattle.either.proofs.Laws.{personal-idle}
+use Rattle.either.proofs.Laws.{read-command, personal-idle}
 use Rattle.either.proofs.Sealed.{inner-card-act}
 use Rattle.runs.specs.Run.{State, Sent, reset, bare, sealed, answerTo, after, runOf, answersOf, frameIn, actOf, acted}
 use Rattle.runs.specs.Watch.{noted, always}
@@ -41,11 +41,6 @@ use Rattle.laws.proofs.Sound.{sound}
 pub both-true : (x y : Bool) → (x && y) ≡ true → (x ≡ true) × (y ≡ true)
 both-true true y e = (refl, e)
 both-true false y e = (e, absurd (false≢true e))
-
--- the frame that a 40h is judged by
-pub read-command : (w : Stage) → w ≡ Idle → commandOf w readZero ≡ Read (blockAt 0)
-unfolding commandOf firstOf twoBytesOf byteIn
-read-command w e = rw e
 
 module _ (image : List ℕ) (k : CardRecord) (s : Session) (frame : List ℕ) where
   -- a 40h that is let pass was let pass as a Read of block 0
