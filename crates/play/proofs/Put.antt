@@ -42,6 +42,30 @@ module _ (out : List ℕ) (at : ℕ) where
       let l : at + length (a ++ b) ≡ at + length a + length b = simp length-append (omega arith) in
       rw (front, back, l) (simp append-assoc)
 
+-- a byte that is stored is a text of one
+pub put-at : {out : List ℕ} {at : ℕ} (b : ℕ) → at < length out → Put out at (b ∷ []) (set out at b) (at + 1)
+put-at {out} {at} b h = record { here = put-one out at b h; moved = refl; fits = omega arith }
+
+-- a byte stored right after a text
+put-next : (out mid text : List ℕ) (at b : ℕ) → mid ≡ putOf out at text → at + length text < length out
+    → set mid (at + length text) b ≡ putOf out at (text ++ (b ∷ []))
+put-next out mid text at b e h =
+    let l : length (putOf out at text) ≡ length out = put-length out at text (omega arith) in
+    ap (λ (x : List ℕ). set x (at + length text) b) e
+    ∙ (put-one (putOf out at text) (at + length text) b (omega arith) ∙ put-put out at text (b ∷ []) (omega arith))
+
+-- two, three and four bytes stored one after the other
+pub put-two : {out : List ℕ} {at : ℕ} (a b : ℕ) → at + 2 ≤ length out → Put out at (a ∷ b ∷ []) (set (set out at a) (at + 1) b) (at + 2)
+put-two {out} {at} a b h = record { here = put-next out _ (a ∷ []) at b (put-one out at a (omega arith)) (omega arith); moved = refl; fits = h }
+
+pub put-three : {out : List ℕ} {at : ℕ} (a b c : ℕ) → at + 3 ≤ length out
+    → Put out at (a ∷ b ∷ c ∷ []) (set (set (set out at a) (at + 1) b) (at + 2) c) (at + 3)
+put-three {out} {at} a b c h = record { here = put-next out _ (a ∷ b ∷ []) at c (put-two a b (omega arith) .here) (omega arith); moved = refl; fits = h }
+
+pub put-four : {out : List ℕ} {at : ℕ} (a b c d : ℕ) → at + 4 ≤ length out
+    → Put out at (a ∷ b ∷ c ∷ d ∷ []) (set (set (set (set out at a) (at + 1) b) (at + 2) c) (at + 3) d) (at + 4)
+put-four {out} {at} a b c d h = record { here = put-next out _ (a ∷ b ∷ c ∷ []) at d (put-three a b c (omega arith) .here) (omega arith); moved = refl; fits = h }
+
 -- one text after the other
 pub then : {out : List ℕ} {at : ℕ} {a b mid last : List ℕ} {place next : ℕ} → Put out at a mid place → Put mid place b last next → Put out at (a ++ b) last next
 then {out} {at} {a} {b} {mid} {last} {place} {next} p q =

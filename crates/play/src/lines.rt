@@ -1,7 +1,8 @@
 // The lines of the printout, each put into the buffer from a place on.
+ghost use mathlib.Core.List.{_++_};
 ghost use Prim.Native.Nat.{_+_, _≤_};
 ghost use lib.ListN.{length};
-ghost use Rattle.play.specs.Text.{Put};
+ghost use Rattle.play.specs.Text.{Put, decimalOf};
 ghost use Rattle.play.specs.Printout.{refusalLine, headerLine, nakMark, markOf, eventLine, blockLine};
 use crate::text::low_digit;
 use crate::text::put;
@@ -12,13 +13,23 @@ use card::Sign;
 use edition::Edition;
 use either::CardAnswer;
 
+// A word and a number after it.
+fn put_number(out: &mut [u8], at: usize, word: &[u8], n: usize) -> usize
+    requires { ⌜ at + length (now word) + 4 ≤ length (now out) ⌝ }
+    ensures { λ r. ⌜ Put (now (out .entry)) at (now (word .entry) ++ decimalOf n) (now (out .exit)) r ⌝ }
+    ensures { λ r. ⌜ r ≤ at + length (now (word .entry)) + 4 ⌝ }
+{
+    let number = put(out, at, word);
+    put_decimal(out, number, n)
+}
+
 pub(crate) fn put_refusal(out: &mut [u8], at: usize, n: u8) -> usize
     requires { ⌜ at + 64 ≤ length (now out) ⌝ }
     ensures { λ r. ⌜ Put (now (out .entry)) at (refusalLine n) (now (out .exit)) r ⌝ }
 {
-    let number = put(out, at, b"script ");
-    let end = put_decimal(out, number, n as usize);
-    put_byte(out, end, b'\n')
+    let end = put_number(out, at, b"script ", n as usize);
+    out[end] = b'\n';
+    end + 1
 }
 
 pub(crate) fn put_header(out: &mut [u8], at: usize, size: usize, count: usize) -> usize
@@ -26,14 +37,13 @@ pub(crate) fn put_header(out: &mut [u8], at: usize, size: usize, count: usize) -
     ensures { λ r. ⌜ Put (now (out .entry)) at (headerLine size count) (now (out .exit)) r ⌝ }
     ensures { λ r. ⌜ r ≤ at + 64 ⌝ }
 {
-    let bytes = put(out, at, b"card ");
-    let word = put_decimal(out, bytes, size);
-    let events = put(out, word, b" events ");
-    let end = put_decimal(out, events, count);
-    put_byte(out, end, b'\n')
+    let events = put_number(out, at, b"card ", size);
+    let end = put_number(out, events, b" events ", count);
+    out[end] = b'\n';
+    end + 1
 }
 
-// An EV1's NAK has a value, one digit.
+// An EV1's NAK has a value, one digit. Put by calls: bytes stored here cost the players an instruction more for each event.
 fn put_nak(edition: Edition, out: &mut [u8], at: usize, nak: u8) -> usize
     requires { ⌜ at + 32 ≤ length (now out) ⌝ }
     ensures { λ r. ⌜ Put (now (out .entry)) at (nakMark edition nak) (now (out .exit)) r ⌝ }
@@ -62,10 +72,16 @@ fn put_mark(
     ensures { λ r. ⌜ r ≤ at + 32 ⌝ }
 {
     match sign {
-        Sign::Ack => put_byte(out, at, b'A'),
+        Sign::Ack => {
+            out[at] = b'A';
+            at + 1
+        }
         Sign::Nak => put_nak(edition, out, at, nak),
         Sign::Data => put_hex(out, at, reply),
-        Sign::Nothing => put_byte(out, at, b'-'),
+        Sign::Nothing => {
+            out[at] = b'-';
+            at + 1
+        }
     }
 }
 
@@ -87,11 +103,12 @@ pub(crate) fn put_event(
     let reply = answer.reply;
     let nak = a.nak;
     let gap = put_decimal(out, at, i);
-    let result = put_byte(out, gap, b' ');
-    let second = put_decimal(out, result, number as usize);
-    let mark = put_byte(out, second, b' ');
-    let end = put_mark(edition, out, mark, sign, nak, reply);
-    put_byte(out, end, b'\n')
+    out[gap] = b' ';
+    let second = put_decimal(out, gap + 1, number as usize);
+    out[second] = b' ';
+    let end = put_mark(edition, out, second + 1, sign, nak, reply);
+    out[end] = b'\n';
+    end + 1
 }
 
 pub(crate) fn put_block(out: &mut [u8], at: usize, b: u8, bytes: [u8; 16]) -> usize
@@ -99,9 +116,9 @@ pub(crate) fn put_block(out: &mut [u8], at: usize, b: u8, bytes: [u8; 16]) -> us
     ensures { λ r. ⌜ Put (now (out .entry)) at (blockLine b bytes) (now (out .exit)) r ⌝ }
     ensures { λ r. ⌜ r ≤ at + 48 ⌝ }
 {
-    let number = put(out, at, b"block ");
-    let gap = put_decimal(out, number, b as usize);
-    let digits = put_byte(out, gap, b' ');
-    let end = put_hex(out, digits, bytes);
-    put_byte(out, end, b'\n')
+    let gap = put_number(out, at, b"block ", b as usize);
+    out[gap] = b' ';
+    let end = put_hex(out, gap + 1, bytes);
+    out[end] = b'\n';
+    end + 1
 }

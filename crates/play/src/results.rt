@@ -5,7 +5,6 @@ ghost use lib.ListN.{length};
 ghost use Rattle.play.specs.Text.{Put};
 ghost use Rattle.play.specs.Results.{resultOf, cardResultOf};
 use crate::text::put;
-use crate::text::put_byte;
 use either::CardAnswer;
 
 fn put_reply(out: &mut [u8], at: usize, reply: [u8; 16]) -> usize
@@ -25,9 +24,10 @@ pub(crate) fn put_result(out: &mut [u8], at: usize, a: CardAnswer) -> usize
     let number = answer.number;
     let sign = answer.sign;
     let reply = answer.reply;
-    let second = put_byte(out, at, number);
-    let third = put_byte(out, second, card::sign_code(sign));
-    put_reply(out, third, reply)
+    let second = at + 1;
+    out[at] = number;
+    out[second] = card::sign_code(sign);
+    put_reply(out, at + 2, reply)
 }
 
 pub(crate) fn put_card_result(out: &mut [u8], at: usize, a: CardAnswer) -> usize
@@ -40,8 +40,10 @@ pub(crate) fn put_card_result(out: &mut [u8], at: usize, a: CardAnswer) -> usize
     let sign = answer.sign;
     let reply = answer.reply;
     let nak = a.nak;
-    let second = put_byte(out, at, number);
-    let third = put_byte(out, second, card::sign_code(sign));
-    let fourth = put_byte(out, third, nak);
-    put_reply(out, fourth, reply)
+    let second = at + 1;
+    let third = at + 2;
+    out[at] = number;
+    out[second] = card::sign_code(sign);
+    out[third] = nak;
+    put_reply(out, at + 3, reply)
 }

@@ -38,25 +38,29 @@ pub(crate) fn put_decimal(out: &mut [u8], at: usize, n: usize) -> usize
     ensures { λ r. ⌜ Put (now (out .entry)) at (decimalOf n) (now (out .exit)) r ⌝ }
     ensures { λ r. ⌜ r ≤ at + 4 ⌝ }
 {
+    let second = at + 1;
     if n < 10 {
-        return put(out, at, &[digit_of(n)]);
+        out[at] = digit_of(n);
+        return second;
     }
+    let third = at + 2;
     if n < 100 {
-        return put(out, at, &[digit_of(n / 10), digit_of(n)]);
+        out[at] = digit_of(n / 10);
+        out[second] = digit_of(n);
+        return third;
     }
+    let fourth = at + 3;
     if n < 1000 {
-        return put(out, at, &[digit_of(n / 100), digit_of(n / 10), digit_of(n)]);
+        out[at] = digit_of(n / 100);
+        out[second] = digit_of(n / 10);
+        out[third] = digit_of(n);
+        return fourth;
     }
-    put(
-        out,
-        at,
-        &[
-            digit_of(n / 1000),
-            digit_of(n / 100),
-            digit_of(n / 10),
-            digit_of(n),
-        ],
-    )
+    out[at] = digit_of(n / 1000);
+    out[second] = digit_of(n / 100);
+    out[third] = digit_of(n / 10);
+    out[fourth] = digit_of(n);
+    at + 4
 }
 
 fn hex_digit(n: u8) -> u8
@@ -81,7 +85,7 @@ pub(crate) fn low_digit(b: u8) -> u8
     hex_digit(b % 16)
 }
 
-// Sixteen bytes in hexadecimal.
+// Sixteen bytes in hexadecimal. Both digits are put by one call: stored one by one they cost the players more instructions.
 pub(crate) fn put_hex(out: &mut [u8], at: usize, bytes: [u8; 16]) -> usize
     requires { ⌜ at + 32 ≤ length (now out) ⌝ }
     ensures { λ r. ⌜ Put (now (out .entry)) at (hexOf bytes) (now (out .exit)) r ⌝ }

@@ -1,20 +1,23 @@
 -- One byte, a NAK, or the reply.
 use native.Mathlib.Omega.{arith}
 use Rattle.play.specs.Printout.{markOf}
+use Rattle.play.proofs.Put.{put-at}
 use borrow.Author.Needs.{needs}
 use Rattle.play.proofs.lines.put_mark.Statement.{statement}
 use Rattle.play.proofs.lines.put_mark.Tie as tie
 use Rattle.play.proofs.lines.put_mark.Reads as reads
 use Rattle.play.proofs.lines.put_mark.Lts as lts
 use Rattle.play.proofs.lines.put_nak.Reads as put-nak-reads
-use Rattle.play.proofs.text.put_byte.Reads as put-byte-reads
 use Rattle.play.proofs.text.put_hex.Reads as put-hex-reads
 
 enum-told : tie.Need-enum-told
 enum-told c = search needs
 
-put-byte-requires : tie.Need-put-byte-requires
-put-byte-requires c κs = search needs
+slice-write-out : tie.Need-slice-write-out
+slice-write-out c = search needs
+
+add-result : tie.Need-add-result
+add-result c = search needs
 
 enum-told-2 : tie.Need-enum-told-2
 enum-told-2 c = search needs
@@ -31,15 +34,18 @@ put-hex-requires c κs = search needs
 enum-told-4 : tie.Need-enum-told-4
 enum-told-4 c = search needs
 
-put-byte-requires-2 : tie.Need-put-byte-requires-2
-put-byte-requires-2 c κs = search needs
+slice-write-out-2 : tie.Need-slice-write-out-2
+slice-write-out-2 c = search needs
+
+add-result-2 : tie.Need-add-result-2
+add-result-2 c = search needs
 
 same-length : tie.Need-same-length
 same-length c = search needs
 
 returns : tie.Need-returns
 unfolding markOf
-returns c = (rw (c .before .before .before .before .enum-told .given .1) (c .before .before .put-byte .ensures), omega (arith, c .before .before .put-byte .ensures .moved))
+returns c = (rw (c .enum-told .given .1) (put-at _ (search needs)), omega arith)
 
 same-length-2 : tie.Need-same-length-2
 same-length-2 c = search needs
@@ -60,20 +66,22 @@ same-length-4 c = search needs
 
 returns-4 : tie.Need-returns-4
 unfolding markOf
-returns-4 c = (rw (c .before .before .before .before .enum-told4 .given .1) (c .before .before .put-byte2 .ensures), omega (arith, c .before .before .put-byte2 .ensures .moved))
+returns-4 c = (rw (c .enum-told4 .given .1) (put-at _ (search needs)), omega arith)
 
 pub put-mark-spec : {M : Type 1} → statement M
 put-mark-spec =
     tie.close
     (tie.spec
     enum-told
-    put-byte-requires
+    slice-write-out
+    add-result
     enum-told-2
     put-nak-requires
     enum-told-3
     put-hex-requires
     enum-told-4
-    put-byte-requires-2
+    slice-write-out-2
+    add-result-2
     same-length
     returns
     same-length-2

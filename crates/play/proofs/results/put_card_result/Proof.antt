@@ -1,7 +1,8 @@
 -- The parts of a result, one after the other.
 use native.Mathlib.Omega.{arith}
+use lib.ListN.{length-set}
 use Rattle.play.specs.Results.{cardResultOf}
-use Rattle.play.proofs.Put.{then}
+use Rattle.play.proofs.Put.{put-three, then}
 use borrow.Author.Needs.{needs}
 use Rattle.play.proofs.results.put_card_result.Statement.{statement}
 use Rattle.play.proofs.results.put_card_result.Tie as tie
@@ -9,38 +10,49 @@ use Rattle.play.proofs.results.put_card_result.Reads as reads
 use Rattle.play.proofs.results.put_card_result.Lts as lts
 use Rattle.card.proofs.sign_code.Reads as sign-code-reads
 use Rattle.play.proofs.results.put_reply.Reads as put-reply-reads
-use Rattle.play.proofs.text.put_byte.Reads as put-byte-reads
 
-put-byte-requires : tie.Need-put-byte-requires
-put-byte-requires c κs = search needs
+add-second : tie.Need-add-second
+add-second c = search needs
+
+add-third : tie.Need-add-third
+add-third c = search needs
+
+slice-write-out : tie.Need-slice-write-out
+slice-write-out c = search needs
 
 sign-code-requires : tie.Need-sign-code-requires
 sign-code-requires c κs = search needs
 
-put-byte-requires-2 : tie.Need-put-byte-requires-2
-put-byte-requires-2 c κs = search needs
+slice-write-out-2 : tie.Need-slice-write-out-2
+slice-write-out-2 c = simp length-set (search needs)
 
-put-byte-requires-3 : tie.Need-put-byte-requires-3
-put-byte-requires-3 c κs = search needs
+slice-write-out-3 : tie.Need-slice-write-out-3
+slice-write-out-3 c = simp length-set (search needs)
+
+add-put-reply : tie.Need-add-put-reply
+add-put-reply c = search needs
 
 put-reply-requires : tie.Need-put-reply-requires
-put-reply-requires c κs = search needs
+put-reply-requires c κs = simp length-set (search needs)
 
 same-length : tie.Need-same-length
-same-length c = search needs
+same-length c = simp length-set at (c .before .before .put-reply .kept .0)
 
 returns : tie.Need-returns
 unfolding cardResultOf
-returns c = (then (c .before .before .before .before .before .before .before .before .before .before .before .before .before .before .before .put-byte .ensures) (then (rw (c .before .before .before .before .before .before .before .before .before .before .before .sign-code .ensures .0) at (c .before .before .before .before .before .before .before .before .before .before .put-byte2 .ensures)) (then (c .before .before .before .before .before .before .put-byte3 .ensures) (c .before .before .put-reply .ensures .0))), omega (arith, c .before .before .before .before .before .before .before .before .before .before .before .before .before .before .before .put-byte .ensures .moved, c .before .before .before .before .before .before .before .before .before .before .put-byte2 .ensures .moved, c .before .before .before .before .before .before .put-byte3 .ensures .moved, c .before .before .put-reply .ensures .1))
+returns c = (rw (← (c .before .before .before .before .sign-code .ensures .0)) (then (put-three _ _ _ (search needs)) (c .before .before .put-reply .ensures .0)), omega (arith, c .before .before .put-reply .ensures .1))
 
 pub put-card-result-spec : {M : Type 1} → statement M
 put-card-result-spec =
     tie.close
     (tie.spec
-    put-byte-requires
+    add-second
+    add-third
+    slice-write-out
     sign-code-requires
-    put-byte-requires-2
-    put-byte-requires-3
+    slice-write-out-2
+    slice-write-out-3
+    add-put-reply
     put-reply-requires
     same-length
     returns)
