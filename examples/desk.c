@@ -1,5 +1,5 @@
-/* The card desk looks up which sector of a card is whose, says why where a directory cannot be read, and mends a torn value block.
- * Each line that it prints is what was asked for and what came back. Exit status 0: every answer was the expected one. */
+/* The card desk looks up which sector of a card is whose, says why where a directory cannot be read, mends a torn value block, and lays
+ * out a new card: its directory, and the access bytes of a sector. Each line that it prints is what was asked for and what came back. Exit status 0: every answer was the expected one. */
 #include "tirlwheel.h"
 
 #include <stdio.h>
@@ -42,6 +42,37 @@ static void mend(void)
     surprises += memcmp(report, expected, sizeof expected) != 0 || image[70] != 0xFF || image[71] != 0xFF;
 }
 
+static void expect(const char *name, uint32_t result, uint32_t expected)
+{
+    printf("%s: number %u\n", name, TIRLWHEEL_NUMBER(result));
+    surprises += result != expected;
+}
+
+/* A card of zeros, with the announcing byte of a new one: the lift gets sector 2, whose rides either key counts down and key B alone
+ * counts up. */
+static void issue(void)
+{
+    static const uint8_t infos[TIRLWHEEL_INFOS] = {0x01, 0};
+    static const uint8_t numbers[TIRLWHEEL_NUMBERS_2] = {0, 0, 0x01, 0x48};
+    static const uint8_t rides[TIRLWHEEL_GROUPS] = {6, 6, 6, 3};
+    uint8_t read_infos[TIRLWHEEL_INFOS], read_numbers[TIRLWHEEL_NUMBERS_2], bits[TIRLWHEEL_GROUPS];
+    memset(image, 0, sizeof image);
+    image[57] = 0x69;
+    expect("38 numbers on a 1K card", tirlwheel_write_directory(image, sizeof image, infos, numbers, TIRLWHEEL_NUMBERS_2), 27);
+    expect("15 numbers", tirlwheel_write_directory(image, sizeof image, infos, numbers, TIRLWHEEL_NUMBERS_1), 0);
+    printf("announced by %02Xh\n", image[57]);
+    look_up("lift", 0x4801, 0x02020100);
+    uint32_t result = tirlwheel_read_directory(image, sizeof image, read_infos, read_numbers);
+    printf("read: number %u, version %u, info byte %02Xh\n", TIRLWHEEL_NUMBER(result), TIRLWHEEL_VERSION(result), read_infos[0]);
+    surprises += result != 0x0100 || memcmp(infos, read_infos, sizeof infos) != 0 || memcmp(numbers, read_numbers, sizeof numbers) != 0;
+    expect("access bytes of sector 2", tirlwheel_write_access(image, sizeof image, 2, rides), 0);
+    expect("read back", tirlwheel_read_access(image, sizeof image, 2, bits), 0);
+    printf("bits %u %u %u %u, bytes %02X %02X %02X\n", bits[0], bits[1], bits[2], bits[3], image[182], image[183], image[184]);
+    surprises += memcmp(rides, bits, sizeof rides) != 0;
+    expect("sector 16 of a 1K card", tirlwheel_write_access(image, sizeof image, 16, rides), 2);
+    expect("sector 3, which is blocked", tirlwheel_read_access(image, sizeof image, 3, bits), 5);
+}
+
 int main(void)
 {
     make_card();
@@ -54,5 +85,6 @@ int main(void)
     image[57] = 0x69;
     look_up("lift, no directory", 0x4801, 15);
     mend();
+    issue();
     return surprises != 0;
 }

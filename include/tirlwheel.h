@@ -5,7 +5,8 @@
  *   libedge.a      tirlwheel_frame and tirlwheel_field_reset, the short form for an old card; tirlwheel_version
  *   libchip.a      tirlwheel_sealed_frame, the short form for frames that have their checksum
  *   libevprint.a   tirlwheel_play_ev1, and libprintout.a  tirlwheel_play: the players
- *   libdesk.a      tirlwheel_lookup and tirlwheel_mend: the desk's tools
+ *   libdesk.a      tirlwheel_lookup, tirlwheel_mend, tirlwheel_write_directory, tirlwheel_read_directory, tirlwheel_write_access and
+ *                  tirlwheel_read_access: the desk's tools
  *
  * A board whose frames all have their checksum links libcardchip.a, and libcardedge.a as well if it needs the field reset.
  *
@@ -30,6 +31,10 @@ extern "C" {
 #define TIRLWHEEL_PRINTOUT 65536  /* bytes of the player's buffer */
 #define TIRLWHEEL_REPORT 768      /* bytes of a report on mended blocks */
 #define TIRLWHEEL_NAMES 256       /* blocks that one call mends at most */
+#define TIRLWHEEL_INFOS 2         /* info bytes of a directory */
+#define TIRLWHEEL_NUMBERS_1 30    /* bytes of the numbers of a directory of version 1: fifteen */
+#define TIRLWHEEL_NUMBERS_2 76    /* and of version 2: thirty-eight */
+#define TIRLWHEEL_GROUPS 4        /* access groups of a sector */
 
 /* A result holds the number in its low byte, the sign in the next, and the value of an EV1's NAK in the one behind; the last is 0. */
 #define TIRLWHEEL_NUMBER(result) ((result) & 0xFFu)
@@ -143,8 +148,8 @@ size_t tirlwheel_play(const uint8_t *script, size_t script_len, uint8_t printout
  * and 24, where some are left over, go by the new end. */
 size_t tirlwheel_play_ev1(const uint8_t *script, size_t script_len, uint8_t printout[65536]);
 
-/* The desk's tools, tirlwheel_lookup and tirlwheel_mend, take no card's record: an image is looked up and mended in the same way for
- * either edition, and 11 there asks for one of the two sizes alone. */
+/* The desk's tools take no card's record: an image is looked up, mended and issued in the same way for either edition, and 11 there asks
+ * for one of the two sizes alone. They take no session either: keys, rights and blocked sectors play no part. */
 
 /* Which sector is an application's, by the MIFARE Application Directory of NXP's AN10787. The image is read as it stands: no session
  * is needed, and keys, rights and blocked sectors play no part. A result has four bytes:
@@ -194,6 +199,60 @@ uint32_t tirlwheel_lookup(const uint8_t *image, size_t image_len, uint32_t appli
  * What any other tool keeps beside an image, such as figures that it took from its blocks, does not know of this call: open it anew
  * afterwards. */
 uint32_t tirlwheel_mend(uint8_t *image, size_t image_len, const uint8_t *names, size_t names_len, uint8_t report[768]);
+
+/* The list of a directory, as the next two calls have it: the application numbers in the order of their sectors, two bytes each, the low
+ * byte (the application code) first, the high byte (the function cluster) second. The first fifteen are those of the sectors 1 to 15;
+ * version 2 has twenty-three more, of the sectors 17 to 39, since sector 16 has none. 0000h is a free sector. So the number of sector s
+ * stands at the bytes 2 * s - 2 and 2 * s - 1, and for a sector above 16 at 2 * s - 4 and 2 * s - 3.
+ *
+ * Of the two info bytes the first is that of sector 0, the second that of sector 16, which only version 2 has. */
+
+/* Writes the directory of an image. The length of the list chooses the version: 30 bytes are version 1, on a card of either size; 76 bytes
+ * are version 2, on an image of 4,096 bytes. Written are, in full, the blocks 1 and 2, and for version 2 the blocks 64, 65 and 66: each
+ * part's checksum, its info byte, its numbers. Info bytes and numbers may have any value; version 1 does not look at infos[1]. And in the
+ * announcing byte (byte 9 of block 3) bit 7 is set and bits 1 and 0 become 01 or 10. All else stays as it is: the other bits of that byte,
+ * bit 6 (more than one application) among them, both keys and the access bytes, the trailer of sector 16 and, under version 1, the whole
+ * of sector 16. From the 69h that a card is delivered with the announcing byte becomes E9h or EAh.
+ *
+ * The result is the number: 0, or the first of these that applies, and then no byte changes:
+ *
+ *   11  the image is not 1,024 or 4,096 bytes long
+ *   15  a card of fewer than sixteen sectors, which has no room for a directory; neither of the two sizes is one
+ *   27  the list has neither 30 bytes nor, on an image of 4,096 bytes, 76; so also an odd number of bytes, and 76 for 1,024
+ *
+ * What any other tool keeps beside an image does not know of this call and of tirlwheel_write_access: open it anew afterwards. */
+uint32_t tirlwheel_write_directory(uint8_t *image, size_t image_len, const uint8_t infos[2], const uint8_t *numbers, size_t numbers_len);
+
+/* Reads the directory of an image in full. A result has two bytes, and above them zeros:
+ *
+ *   byte 0  the number: 0, or 11, 15 or 16, which mean what they mean for tirlwheel_lookup
+ *   byte 1  the version, 1 or 2; 0 for a refusal
+ *
+ * `infos` and `numbers` are written on every call, all 78 bytes of them: the info bytes and the list, and zeros where there is nothing,
+ * which is infos[1] and numbers[30] to numbers[75] for version 1, and everything for a refusal. Written again with its info bytes and
+ * the first 30 bytes of the list, or all 76, a directory that was read changes no byte of the image. */
+#define TIRLWHEEL_VERSION(result) ((result) >> 8 & 0xFFu)
+uint32_t tirlwheel_read_directory(const uint8_t *image, size_t image_len, uint8_t infos[2], uint8_t numbers[76]);
+
+/* Writes the access bytes of a sector: bytes 6, 7 and 8 of its trailer, from the bits of its four groups. bits[0], bits[1] and bits[2] are
+ * for the groups of data blocks, bits[3] is for the trailer; each is the number C1 C2 C3, C1 counting four, so 0 to 7. All else stays
+ * as it is, both keys and byte 9 of the trailer among it. A sector that was blocked no longer is: this is no frame, and it is the only
+ * call that does so. Bits that shut everybody out are written like any others.
+ *
+ * The result is the number: 0, or the first of these that applies, and then no byte changes:
+ *
+ *   11  the image is not 1,024 or 4,096 bytes long
+ *    2  no such sector: `sector` is 16 or more for 1,024 bytes, 40 or more for 4,096, however large it is
+ *   28  the bits of a group are above 7 */
+uint32_t tirlwheel_write_access(uint8_t *image, size_t image_len, uint32_t sector, const uint8_t bits[4]);
+
+/* Reads the bits of a sector's four groups, in the form of tirlwheel_write_access. `bits` is written on every call: four zeros for a
+ * refusal. The result is the number: 0, or the first of
+ *
+ *   11  the image is not 1,024 or 4,096 bytes long
+ *    2  no such sector
+ *    5  the sector is blocked: its access bytes are malformed */
+uint32_t tirlwheel_read_access(const uint8_t *image, size_t image_len, uint32_t sector, uint8_t bits[4]);
 
 /* Which boundary this is: 4. A change that a caller would notice counts it up: 2 came with frames that have their checksum, 3 with the
  * refusal of an operand below zero (13), 4 with the card's record and the EV1. */

@@ -2,6 +2,7 @@
 
 use crate::card::SealedReply;
 use crate::edition::{CardBytes, Edition};
+use crate::issuing::{GroupBits, Infos, Numbers};
 use crate::layout::BlockBytes;
 use crate::mending::Report;
 use crate::record::Record;
@@ -19,6 +20,10 @@ pub type CardResetCall = unsafe extern "C" fn(*mut CardBytes, *mut Record, *mut 
 pub type PlayCall = unsafe extern "C" fn(*const u8, usize, *mut Printout) -> usize;
 pub type LookupCall = unsafe extern "C" fn(*const u8, usize, u32) -> u32;
 pub type MendCall = unsafe extern "C" fn(*mut u8, usize, *const u8, usize, *mut Report) -> u32;
+pub type WriteDirectoryCall = unsafe extern "C" fn(*mut u8, usize, *const Infos, *const u8, usize) -> u32;
+pub type ReadDirectoryCall = unsafe extern "C" fn(*const u8, usize, *mut Infos, *mut Numbers) -> u32;
+pub type WriteAccessCall = unsafe extern "C" fn(*mut u8, usize, u32, *const GroupBits) -> u32;
+pub type ReadAccessCall = unsafe extern "C" fn(*const u8, usize, u32, *mut GroupBits) -> u32;
 
 extern "C" {
     fn tirlwheel_frame(image: *mut u8, image_len: usize, session: *mut Record, frame: *const u8, frame_len: usize, reply: *mut BlockBytes) -> u32;
@@ -54,6 +59,10 @@ extern "C" {
     fn tirlwheel_play_ev1(script: *const u8, script_len: usize, printout: *mut Printout) -> usize;
     fn tirlwheel_lookup(image: *const u8, image_len: usize, application: u32) -> u32;
     fn tirlwheel_mend(image: *mut u8, image_len: usize, names: *const u8, names_len: usize, report: *mut Report) -> u32;
+    fn tirlwheel_write_directory(image: *mut u8, image_len: usize, infos: *const Infos, numbers: *const u8, numbers_len: usize) -> u32;
+    fn tirlwheel_read_directory(image: *const u8, image_len: usize, infos: *mut Infos, numbers: *mut Numbers) -> u32;
+    fn tirlwheel_write_access(image: *mut u8, image_len: usize, sector: u32, bits: *const GroupBits) -> u32;
+    fn tirlwheel_read_access(image: *const u8, image_len: usize, sector: u32, bits: *mut GroupBits) -> u32;
 }
 
 #[derive(Clone, Copy)]
@@ -68,6 +77,10 @@ pub struct Card {
     pub play_ev1_call: PlayCall,
     pub lookup_call: LookupCall,
     pub mend_call: MendCall,
+    pub write_directory_call: WriteDirectoryCall,
+    pub read_directory_call: ReadDirectoryCall,
+    pub write_access_call: WriteAccessCall,
+    pub read_access_call: ReadAccessCall,
 }
 
 pub const LIBRARY: Card = Card {
@@ -81,6 +94,10 @@ pub const LIBRARY: Card = Card {
     play_ev1_call: tirlwheel_play_ev1,
     lookup_call: tirlwheel_lookup,
     mend_call: tirlwheel_mend,
+    write_directory_call: tirlwheel_write_directory,
+    read_directory_call: tirlwheel_read_directory,
+    write_access_call: tirlwheel_write_access,
+    read_access_call: tirlwheel_read_access,
 };
 pub const RUST: Card = rust_calls::CARD;
 
@@ -140,5 +157,28 @@ impl Card {
     pub fn mend(&self, image: &mut [u8], names: &[u8], report: &mut Report) -> u32 {
         // SAFETY: true lengths, and distinct borrows do not overlap.
         unsafe { (self.mend_call)(image.as_mut_ptr(), image.len(), names.as_ptr(), names.len(), report) }
+    }
+    /// The number of the call.
+    pub fn write_directory(&self, image: &mut [u8], infos: &Infos, numbers: &[u8]) -> u32 {
+        // SAFETY: true lengths, and distinct borrows do not overlap.
+        unsafe { (self.write_directory_call)(image.as_mut_ptr(), image.len(), infos, numbers.as_ptr(), numbers.len()) }
+    }
+
+    /// Number and version, from the low byte on.
+    pub fn read_directory(&self, image: &[u8], infos: &mut Infos, numbers: &mut Numbers) -> u32 {
+        // SAFETY: true length, and distinct borrows do not overlap.
+        unsafe { (self.read_directory_call)(image.as_ptr(), image.len(), infos, numbers) }
+    }
+
+    /// The number of the call.
+    pub fn write_access(&self, image: &mut [u8], sector: u32, bits: &GroupBits) -> u32 {
+        // SAFETY: true length, and distinct borrows do not overlap.
+        unsafe { (self.write_access_call)(image.as_mut_ptr(), image.len(), sector, bits) }
+    }
+
+    /// The number of the call.
+    pub fn read_access(&self, image: &[u8], sector: u32, bits: &mut GroupBits) -> u32 {
+        // SAFETY: true length, and distinct borrows do not overlap.
+        unsafe { (self.read_access_call)(image.as_ptr(), image.len(), sector, bits) }
     }
 }

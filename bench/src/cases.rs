@@ -6,6 +6,7 @@ use crate::card::{Operation, Session, Stage, FRESH, SEALED_BYTES};
 use crate::crc::seal_of;
 use crate::directory::{checksum, place_of, ANNOUNCING, FIRST, SECOND};
 use crate::edition::{of_card, CardBytes, CardRecord, Edition, Usage};
+use crate::issuing::{GroupBits, Infos, FIRST_BYTES, NUMBERS_BYTES};
 use crate::layout::{blocks_of, bytes_of_mut, is_trailer, trailer_of, BLOCK_BYTES};
 use crate::reader::Sent;
 use crate::record::{of_session, Record};
@@ -330,5 +331,42 @@ pub fn mendings() -> Vec<Mending> {
         ("mend, all data blocks, 4K", torn(6), data),
     ]
     .map(|(name, image, names)| Mending { name, image, names })
+    .into()
+}
+
+/// A call of the issuing desk.
+pub enum Desk {
+    WriteDirectory(Infos, Vec<u8>),
+    ReadDirectory,
+    WriteAccess(u32, GroupBits),
+    ReadAccess(u32),
+}
+
+pub struct Issue {
+    pub name: &'static str,
+    pub image: Vec<u8>,
+    pub call: Desk,
+}
+
+/// Both versions written and read, a directory that is refused; a sector's access bytes written and read.
+pub fn issues() -> Vec<Issue> {
+    let (one, two) = (announced(1024, 0xC1), announced(4096, 0xC2));
+    let numbers: Vec<u8> = (1..=38).flat_map(|sector| [sector, 0x48]).collect();
+    let list = |bytes: usize| Desk::WriteDirectory([1, 0x11], numbers[..bytes].to_vec());
+    let (mut wrong, mut open) = (two.clone(), one.clone());
+    wrong[SECOND.start] ^= 1;
+    bytes_of_mut(&mut open, trailer_of(5)).copy_from_slice(&TRANSPORT_TRAILER);
+    [
+        ("issue, write version 1", one.clone(), list(FIRST_BYTES)),
+        ("issue, write version 2", two.clone(), list(NUMBERS_BYTES)),
+        ("issue, write, 27", two.clone(), list(NUMBERS_BYTES - 1)),
+        ("issue, read version 1", one.clone(), Desk::ReadDirectory),
+        ("issue, read version 2", two, Desk::ReadDirectory),
+        ("issue, read, 16", wrong, Desk::ReadDirectory),
+        ("issue, write access bytes", one.clone(), Desk::WriteAccess(5, [4, 4, 6, 3])),
+        ("issue, read access bytes", open, Desk::ReadAccess(5)),
+        ("issue, read access bytes, 5", one, Desk::ReadAccess(5)),
+    ]
+    .map(|(name, image, call)| Issue { name, image, call })
     .into()
 }

@@ -47,7 +47,7 @@ fn is_right(part: &[u8]) -> bool {
 }
 
 /// The last sector that the directory lists, or the number that refuses it.
-fn last_sector(image: &[u8]) -> Result<u8, u8> {
+pub fn last_sector(image: &[u8]) -> Result<u8, u8> {
     if !is_image(image) {
         return Err(11);
     }

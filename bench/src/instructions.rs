@@ -23,8 +23,22 @@ pub fn count(card: &Card) {
 }
 
 /// The calls of the library, by what stands behind `tirlwheel_`; the Rust card's begin with `rust_`.
-const CALLS: [&str; 10] =
-    ["frame", "sealed_frame", "field_reset", "card_frame", "card_sealed_frame", "card_reset", "play", "play_ev1", "lookup", "mend"];
+const CALLS: [&str; 14] = [
+    "frame",
+    "sealed_frame",
+    "field_reset",
+    "card_frame",
+    "card_sealed_frame",
+    "card_reset",
+    "play",
+    "play_ev1",
+    "lookup",
+    "mend",
+    "write_directory",
+    "read_directory",
+    "write_access",
+    "read_access",
+];
 
 /// Instructions for each case, on the library and on the Rust card.
 pub fn of_both() -> Vec<(f64, f64)> {

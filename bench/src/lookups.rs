@@ -57,7 +57,7 @@ fn expected() -> BTreeMap<String, u64> {
     sectors.chain(others).map(|name| (name, 0)).collect()
 }
 
-fn any_image(random: &mut Random) -> Vec<u8> {
+pub fn any_image(random: &mut Random) -> Vec<u8> {
     let mut image = images::any_size(random);
     if image.len() <= ANNOUNCING || random.percent(5) {
         return image;

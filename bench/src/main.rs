@@ -13,6 +13,8 @@ mod edition;
 mod frames;
 mod images;
 mod instructions;
+mod issues;
+mod issuing;
 mod layout;
 mod lookups;
 mod mending;
@@ -37,7 +39,7 @@ use std::io::{Read, Write};
 use std::process::ExitCode;
 
 const USAGE: &str =
-    "usage: bench differ SEED COUNT | scripts old|ev1 SEED COUNT PLAYER | print old|ev1 < SCRIPT | lookups SEED COUNT | mendings SEED COUNT | speed | stack";
+    "usage: bench differ SEED COUNT | scripts old|ev1 SEED COUNT PLAYER | print old|ev1 < SCRIPT | lookups SEED COUNT | mendings SEED COUNT | issues SEED COUNT | speed | stack";
 
 fn main() -> ExitCode {
     let words: Vec<String> = std::env::args().skip(1).collect();
@@ -48,6 +50,7 @@ fn main() -> ExitCode {
         ["print", edition] => print(edition_of(edition)),
         ["lookups", seed, count] => lookups::run(number(seed), number(count)),
         ["mendings", seed, count] => mendings::run(number(seed), number(count)),
+        ["issues", seed, count] => issues::run(number(seed), number(count)),
         ["speed"] => {
             speed::print_table();
             true

@@ -4,6 +4,7 @@ use crate::calls::{Card, Printout};
 use crate::card::{self, Answer, SealedReply, Session, FRESH, RECORD};
 use crate::directory;
 use crate::edition::{self, is_size, of_card, to_card, CardBytes, CardRecord, Valued};
+use crate::issuing::{self, GroupBits, Infos, Numbers};
 use crate::layout::{is_image, BlockBytes};
 use crate::mending::{self, Report};
 use crate::player;
@@ -21,6 +22,10 @@ pub const CARD: Card = Card {
     play_ev1_call: rust_play_ev1,
     lookup_call: rust_lookup,
     mend_call: rust_mend,
+    write_directory_call: rust_write_directory,
+    read_directory_call: rust_read_directory,
+    write_access_call: rust_write_access,
+    read_access_call: rust_read_access,
 };
 
 fn packed(answer: Answer) -> u32 {
@@ -168,4 +173,22 @@ unsafe extern "C" fn rust_lookup(image: *const u8, image_len: usize, application
 unsafe extern "C" fn rust_mend(image: *mut u8, image_len: usize, names: *const u8, names_len: usize, report: *mut Report) -> u32 {
     let (image, names) = (from_raw_parts_mut(image, image_len), from_raw_parts(names, names_len));
     mending::mend(image, names, &mut *report).into()
+}
+
+unsafe extern "C" fn rust_write_directory(image: *mut u8, image_len: usize, infos: *const Infos, numbers: *const u8, numbers_len: usize) -> u32 {
+    let (image, numbers) = (from_raw_parts_mut(image, image_len), from_raw_parts(numbers, numbers_len));
+    issuing::write_directory(image, &*infos, numbers).into()
+}
+
+unsafe extern "C" fn rust_read_directory(image: *const u8, image_len: usize, infos: *mut Infos, numbers: *mut Numbers) -> u32 {
+    let (number, version) = issuing::read_directory(from_raw_parts(image, image_len), &mut *infos, &mut *numbers);
+    u32::from_le_bytes([number, version, 0, 0])
+}
+
+unsafe extern "C" fn rust_write_access(image: *mut u8, image_len: usize, sector: u32, bits: *const GroupBits) -> u32 {
+    issuing::write_access(from_raw_parts_mut(image, image_len), sector, &*bits).into()
+}
+
+unsafe extern "C" fn rust_read_access(image: *const u8, image_len: usize, sector: u32, bits: *mut GroupBits) -> u32 {
+    issuing::read_access(from_raw_parts(image, image_len), sector, &mut *bits).into()
 }

@@ -2,9 +2,10 @@
 
 use crate::calls::{Card, Printout, LIBRARY, RUST};
 use crate::card::SealedReply;
-use crate::cases::{self, Case, Lookup, Mending, Played};
+use crate::cases::{self, Case, Desk, Issue, Lookup, Mending, Played};
 use crate::edition::CardBytes;
 use crate::instructions;
+use crate::issuing::{GroupBits, Infos, Numbers, NUMBERS_BYTES};
 use crate::layout::BlockBytes;
 use crate::mending::{Report, REPORT_BYTES};
 use crate::record::Record;
@@ -33,6 +34,10 @@ const NOTHING: Card = Card {
     play_ev1_call: no_play,
     lookup_call: no_lookup,
     mend_call: no_mend,
+    write_directory_call: no_write_directory,
+    read_directory_call: no_read_directory,
+    write_access_call: no_write_access,
+    read_access_call: no_read_access,
 };
 
 unsafe extern "C" fn no_frame(_: *mut u8, _: usize, _: *mut Record, _: *const u8, _: usize, _: *mut BlockBytes) -> u32 {
@@ -79,6 +84,22 @@ unsafe extern "C" fn no_mend(_: *mut u8, _: usize, _: *const u8, _: usize, _: *m
     0
 }
 
+unsafe extern "C" fn no_write_directory(_: *mut u8, _: usize, _: *const Infos, _: *const u8, _: usize) -> u32 {
+    0
+}
+
+unsafe extern "C" fn no_read_directory(_: *const u8, _: usize, _: *mut Infos, _: *mut Numbers) -> u32 {
+    0
+}
+
+unsafe extern "C" fn no_write_access(_: *mut u8, _: usize, _: u32, _: *const GroupBits) -> u32 {
+    0
+}
+
+unsafe extern "C" fn no_read_access(_: *const u8, _: usize, _: u32, _: *mut GroupBits) -> u32 {
+    0
+}
+
 /// Something that a card can be given again and again.
 pub struct Work {
     pub name: String,
@@ -119,6 +140,19 @@ impl Work {
         Work { name, times, send: Box::new(send) }
     }
 
+    fn of_issue(Issue { name, mut image, call }: Issue) -> Work {
+        let (mut infos, mut numbers, mut read) = ([0; 2], [0; NUMBERS_BYTES], [0; 4]);
+        let send = move |card: &Card| {
+            std::hint::black_box(match &call {
+                Desk::WriteDirectory(infos, numbers) => card.write_directory(&mut image, infos, numbers),
+                Desk::ReadDirectory => card.read_directory(&image, &mut infos, &mut numbers),
+                Desk::WriteAccess(sector, bits) => card.write_access(&mut image, *sector, bits),
+                Desk::ReadAccess(sector) => card.read_access(&image, *sector, &mut read),
+            });
+        };
+        Work { name: name.to_string(), times: CALLS_PER_ROUND, send: Box::new(send) }
+    }
+
     pub fn repeat(&mut self, card: &Card, times: u32) {
         for _ in 0..times {
             (self.send)(std::hint::black_box(card));
@@ -143,7 +177,8 @@ pub fn works() -> Vec<Work> {
     let scripts = cases::ride_scripts(RIDES).into_iter().map(Work::of_script);
     let lookups = cases::lookups().into_iter().map(Work::of_lookup);
     let mendings = cases::mendings().into_iter().map(Work::of_mending);
-    cases.chain(scripts).chain(lookups).chain(mendings).collect()
+    let issues = cases::issues().into_iter().map(Work::of_issue);
+    cases.chain(scripts).chain(lookups).chain(mendings).chain(issues).collect()
 }
 
 /// The shortest nanoseconds of the empty card, the library and the Rust card.
@@ -183,10 +218,11 @@ pub fn print_table() {
 }
 
 /// How the names of lines begin, and of which entry they are; the last takes the rest.
-const ENTRIES: [(&str, &str); 8] = [
+const ENTRIES: [(&str, &str); 9] = [
     ("sealed", "frames with their checksum"),
     ("lookup", "lookups"),
     ("mend", "mendings"),
+    ("issue", "calls of the issuing desk"),
     ("EV1 sealed", "frames with their checksum on an EV1"),
     ("EV1", "bare frames on an EV1"),
     ("old sealed", "frames with their checksum and an old card's record"),

@@ -2,7 +2,8 @@
 
 use crate::calls::{Card, LIBRARY, PRINTOUT_BYTES, RUST};
 use crate::card::SEALED_BYTES;
-use crate::cases::{self, Case, Lookup, Mending, Played};
+use crate::cases::{self, Case, Desk, Issue, Lookup, Mending, Played};
+use crate::issuing::NUMBERS_BYTES;
 use crate::mending::REPORT_BYTES;
 use crate::reader::Sent;
 use crate::speed::RIDES;
@@ -112,6 +113,25 @@ fn of_mending(stack: &mut Stack, card: &Card, mending: &Mending) -> usize {
     })
 }
 
+fn of_issue(stack: &mut Stack, card: &Card, Issue { image, call, .. }: &Issue) -> usize {
+    let (mut image, mut infos, mut numbers, mut read) = (image.clone(), [0u8; 2], [0u8; NUMBERS_BYTES], [0u8; 4]);
+    depth(stack, |stack| {
+        let (start, length) = (image.as_mut_ptr() as usize, image.len());
+        let (function, arguments) = match call {
+            Desk::WriteDirectory(infos, numbers) => {
+                (card.write_directory_call as *const (), vec![start, length, infos.as_ptr() as usize, numbers.as_ptr() as usize, numbers.len()])
+            }
+            Desk::ReadDirectory => {
+                (card.read_directory_call as *const (), vec![start, length, infos.as_mut_ptr() as usize, numbers.as_mut_ptr() as usize])
+            }
+            Desk::WriteAccess(sector, bits) => (card.write_access_call as *const (), vec![start, length, *sector as usize, bits.as_ptr() as usize]),
+            Desk::ReadAccess(sector) => (card.read_access_call as *const (), vec![start, length, *sector as usize, read.as_mut_ptr() as usize]),
+        };
+        // SAFETY: as above.
+        unsafe { call_on(stack, function, &arguments) }
+    })
+}
+
 pub fn print_table() {
     let mut stack: Box<Stack> = unsafe { Box::new_zeroed().assume_init() };
     println!("{:36} {:>8} {:>8}", "bytes of stack", "library", "Rust");
@@ -131,5 +151,9 @@ pub fn print_table() {
     for mending in cases::mendings() {
         let (library, rust) = (of_mending(&mut stack, &LIBRARY, &mending), of_mending(&mut stack, &RUST, &mending));
         println!("{:36} {library:8} {rust:8}", mending.name);
+    }
+    for issue in cases::issues() {
+        let (library, rust) = (of_issue(&mut stack, &LIBRARY, &issue), of_issue(&mut stack, &RUST, &issue));
+        println!("{:36} {library:8} {rust:8}", issue.name);
     }
 }

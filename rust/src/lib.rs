@@ -66,6 +66,31 @@ mod ffi {
             names_len: usize,
             report: *mut [u8; 768],
         ) -> u32;
+        pub fn tirlwheel_write_directory(
+            image: *mut u8,
+            image_len: usize,
+            infos: *const [u8; 2],
+            numbers: *const u8,
+            numbers_len: usize,
+        ) -> u32;
+        pub fn tirlwheel_read_directory(
+            image: *const u8,
+            image_len: usize,
+            infos: *mut [u8; 2],
+            numbers: *mut [u8; 76],
+        ) -> u32;
+        pub fn tirlwheel_write_access(
+            image: *mut u8,
+            image_len: usize,
+            sector: u32,
+            bits: *const [u8; 4],
+        ) -> u32;
+        pub fn tirlwheel_read_access(
+            image: *const u8,
+            image_len: usize,
+            sector: u32,
+            bits: *mut [u8; 4],
+        ) -> u32;
         pub fn tirlwheel_version() -> u32;
     }
 }
@@ -75,7 +100,9 @@ mod ffi {
 pub struct Session(pub [u8; 12]);
 
 mod card;
+mod issue;
 pub use card::{Card, Choice, Edition, Nak, Usage};
+pub use issue::{read_access, read_directory, write_access, write_directory, Directory};
 
 /// What went on the air.
 #[derive(Clone, Copy, Debug, PartialEq, Eq)]

@@ -28,6 +28,7 @@ pub mod OneCardEdge
 pub mod OneDirectory
 pub mod OneMend
 pub mod OneTally
+pub mod OneIssue
 pub mod OneDesk
 pub mod Boundary
 pub mod CardBoundary

@@ -7,6 +7,13 @@ ghost use Rattle.mend.specs.All.{callNumber, mendedImage, reportOf};
 ghost use Rattle.desk.specs.Desk.{flagOf, sectorIn, packedLookup};
 use directory::Found;
 
+mod issuing;
+
+pub use issuing::tirlwheel_read_access;
+pub use issuing::tirlwheel_read_directory;
+pub use issuing::tirlwheel_write_access;
+pub use issuing::tirlwheel_write_directory;
+
 fn wide(b: u8) -> u32
     ensures { λ r. ⌜ (r ≡ b) × (r < 256) ⌝ }
 {

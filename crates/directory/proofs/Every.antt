@@ -44,7 +44,7 @@ look (e ∷ es) p w = go (eqb e w) refl (look es (suc p) w)
     go false q rest = rw q (later e es p w (placeFrom (suc p) w es) (eqb-false e w q) rest)
 
 -- a version's entries are those that its places read
-entry-read : (image : List ℕ) (v : Version) (place : ℕ) → 0 < place → place ≤ length (entriesOf image v) → entryAt image place ≡ getD (entriesOf image v) (place - 1) 0
+pub entry-read : (image : List ℕ) (v : Version) (place : ℕ) → 0 < place → place ≤ length (entriesOf image v) → entryAt image place ≡ getD (entriesOf image v) (place - 1) 0
 unfolding entryAt entriesOf
 entry-read image Absent place h l = absurd (omega arith)
 entry-read image One place h l =

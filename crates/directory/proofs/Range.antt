@@ -20,7 +20,7 @@ use Rattle.directory.specs.declared.Found.the-variants.{Nothing}
 use Rattle.directory.proofs.Places.{first-place, second-place, past-places}
 use Rattle.directory.proofs.Every.{every-entry}
 
-Small : List ℕ → Type 0
+unfoldable pub Small : List ℕ → Type 0
 Small l = (i : ℕ) → getD l i 0 < 256
 
 small-take : (n : ℕ) (l : List ℕ) → Small l → Small (take n l)
@@ -52,7 +52,7 @@ small-zeros n i = go (ltb i n) refl
         omega arith
 
 module _ (image : List ℕ) (s : Small image) where
-  byte-small : (b : Block) (i : ℕ) → byteOf image b i < 256
+  pub byte-small : (b : Block) (i : ℕ) → byteOf image b i < 256
   unfolding byteOf contentOf Small
   byte-small b i = go (hasBlock (length image) b) refl
     where

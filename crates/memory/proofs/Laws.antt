@@ -97,3 +97,17 @@ module _ (image : List ℕ) (b : Block) (bytes : List ℕ) (l : length bytes ≡
       go true e true f = rw (store-length, f, e) (put-other (b .0) bytes image (room (length image) b e) l (j .0) ne)
       go true e false f = rw (store-length, f)
       go false e u f = rw e
+
+-- a block stored where it stands
+pub store-same : (image : List ℕ) (b : Block) → storeOf image b (contentOf image b) ≡ image
+unfolding storeOf contentOf
+store-same image b = go (hasBlock (length image) b) refl
+  where
+    go : (t : Bool) → hasBlock (length image) b ≡ t → storeOf image b (contentOf image b) ≡ image
+    go true e =
+        let n = 16 * b .0 in
+        rw e
+        (ap (λ (l : List ℕ). take n image ++ (take 16 (drop n image) ++ l)) (sym (drop-drop 16 n image))
+        ∙ ap (λ (l : List ℕ). take n image ++ l) (take-append-drop 16 (drop n image))
+        ∙ take-append-drop n image)
+    go false e = rw e

@@ -11,7 +11,7 @@ use borrow.Author.Tests.{eqb-true, eqb-false}
 use Rattle.layout.specs.Layout.{blockAt}
 use Rattle.layout.specs.declared.Block.{Block}
 use Rattle.memory.specs.Memory.{contentOf}
-use Rattle.memory.proofs.Laws.{content-length}
+use Rattle.memory.proofs.Laws.{content-length, store-same}
 use Rattle.value.specs.Whole.{signed}
 use Rattle.value.specs.Block.{encodeOf}
 use Rattle.value.proofs.Blocks.{encode-length}
@@ -23,7 +23,7 @@ use Rattle.mend.specs.declared.rule.Mended.{Mended}
 use Rattle.mend.specs.declared.rule.Mended.the-variants.{As, NoMajority}
 use Rattle.mend.proofs.Ways.{after-length}
 use Rattle.mend.proofs.Majority.{mended-small}
-use Rattle.mend.proofs.Laws.{here, store-same, refused, tied, stored, told, reads, other, second-time}
+use Rattle.mend.proofs.Laws.{refused, tied, stored, told, reads, other, second-time}
 
 -- lists of one length of which no byte changed are the same
 unchanged : (xs ys : List ℕ) → length xs ≡ length ys → changedOf xs ys ≡ 0 → xs ≡ ys
@@ -52,7 +52,7 @@ quiet-stays image b q = go (eqb (nameRefusal (length image) b) 0) refl (mendedOf
         let n : changedOf (contentOf image b) (encodeOf (signed v) a) ≡ 0 = ap (λ o. o .changed) (sym (told image b v a z f)) ∙ q in
         let s : contentOf image b ≡ encodeOf (signed v) a =
         unchanged (contentOf image b) (encodeOf (signed v) a) (content-length image b ∙ sym (encode-length (signed v) a)) n in
-        stored image b v a z f ∙ rw (← s) (store-same image b (here (length image) b z))
+        stored image b v a z f ∙ rw (← s) (store-same image b)
 
 -- what is told of a block depends on its bytes and the image's length
 same-outcome : (x y : List ℕ) (b : Block) → length x ≡ length y → contentOf x b ≡ contentOf y b → blockOutcome x b ≡ blockOutcome y b

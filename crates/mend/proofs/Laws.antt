@@ -2,17 +2,16 @@
 -- Assumes nothing.
 use mathlib.Core.Path.{_≡_, refl, sym, _∙_, ap}
 use mathlib.Core.Bool.{Bool, true, false, cond, _||_}
-use mathlib.Core.List.{List, [], _∷_, _++_}
-use Prim.Native.Nat.{ℕ, _+_, _*_, _<_}
+use mathlib.Core.List.{List, [], _∷_}
+use Prim.Native.Nat.{ℕ, _<_}
 use native.Mathlib.Omega.{arith}
 use lib.Dec.{eqb}
-use lib.ListN.{length, take, drop, take-append-drop}
-use lib.Seq.{drop-drop}
+use lib.ListN.{length}
 use borrow.Author.Tests.{eq-eqb, eqb-true, eqb-false}
 use Rattle.layout.specs.Layout.{blockAt, hasBlock, isTrailer}
 use Rattle.layout.specs.declared.Block.{Block}
 use Rattle.memory.specs.Memory.{contentOf, storeOf}
-use Rattle.memory.proofs.Laws.{store-back, store-other}
+use Rattle.memory.proofs.Laws.{store-back, store-other, store-same}
 use Rattle.value.specs.Whole.{signed}
 use Rattle.value.specs.Block.{encodeOf}
 use Rattle.value.proofs.Blocks.{encode-length, decode-encode, encode-decode, decode-small}
@@ -49,16 +48,6 @@ module _ (bytes : ℕ) (b : Block) where
       go true = refl
       go false = refl
 
--- a block stored where it stands
-pub store-same : (image : List ℕ) (b : Block) → hasBlock (length image) b ≡ true → storeOf image b (contentOf image b) ≡ image
-unfolding storeOf contentOf
-store-same image b e =
-    let n = 16 * b .0 in
-    rw e
-    (ap (λ (l : List ℕ). take n image ++ (take 16 (drop n image) ++ l)) (sym (drop-drop 16 n image))
-    ∙ ap (λ (l : List ℕ). take n image ++ l) (take-append-drop 16 (drop n image))
-    ∙ take-append-drop n image)
-
 module _ (image : List ℕ) (b : Block) where
   -- refused by its address, or without a majority: all stays
   pub refused : eqb (nameRefusal (length image) b) 0 ≡ false
@@ -89,7 +78,7 @@ module _ (image : List ℕ) (b : Block) where
   sound v a e held hv ha =
       let m : mendedOf (contentOf image b) ≡ As v a = ap mendedOf held ∙ whole v a hv ha in (
         told v a e m ∙ rw (← held, changed-none (contentOf image b)),
-        stored v a e m ∙ rw (← held) (store-same image b (here (length image) b e)),
+        stored v a e m ∙ rw (← held) (store-same image b),
       )
 
 -- the address byte of a value block

@@ -1,0 +1,9 @@
+pub mod Choice
+pub mod Blocks
+pub mod Filling
+pub mod Listing
+pub mod Ways
+pub mod Versions
+pub mod Again
+pub mod Laws
+pub mod Access

@@ -1,0 +1,4 @@
+pub mod Write
+pub mod Read
+pub mod Groups
+pub mod Laws
