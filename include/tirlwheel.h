@@ -2,13 +2,16 @@
  *
  *   libcardedge.a  tirlwheel_card_frame and tirlwheel_card_reset: a card of either edition, with its record
  *   libcardchip.a  tirlwheel_card_sealed_frame: the same for frames that have their checksum
+ *   libkeptedge.a  tirlwheel_kept_frame and tirlwheel_kept_reset: the same as libcardedge.a's, with the card's figures beside its record
+ *   libkeptchip.a  tirlwheel_kept_sealed_frame: the same for frames that have their checksum
  *   libedge.a      tirlwheel_frame and tirlwheel_field_reset, the short form for an old card; tirlwheel_version
  *   libchip.a      tirlwheel_sealed_frame, the short form for frames that have their checksum
  *   libevprint.a   tirlwheel_play_ev1, and libprintout.a  tirlwheel_play: the players
- *   libdesk.a      tirlwheel_lookup, tirlwheel_mend, tirlwheel_write_directory, tirlwheel_read_directory, tirlwheel_write_access and
- *                  tirlwheel_read_access: the desk's tools
+ *   libdesk.a      tirlwheel_open, which counts the figures; tirlwheel_lookup, tirlwheel_mend, tirlwheel_write_directory,
+ *                  tirlwheel_read_directory, tirlwheel_write_access and tirlwheel_read_access: the desk's tools
  *
- * A board whose frames all have their checksum links libcardchip.a, and libcardedge.a as well if it needs the field reset.
+ * A board whose frames all have their checksum links libcardchip.a, and libcardedge.a as well if it needs the field reset. One that keeps
+ * figures links libkeptedge.a or libkeptchip.a instead, and libdesk.a for the opening.
  *
  * The libraries open nothing, allocate nothing and keep nothing between calls: image, records and reply are the caller's.
  * Each call's result is proved for every input. What no proof covers is the caller's part: each pointer is good for the length
@@ -26,6 +29,7 @@ extern "C" {
 
 #define TIRLWHEEL_CARD 4          /* bytes of a card's record */
 #define TIRLWHEEL_SESSION 12      /* bytes of a session's record */
+#define TIRLWHEEL_FIGURES 16      /* bytes of a card's figures */
 #define TIRLWHEEL_REPLY 16        /* bytes of a reply */
 #define TIRLWHEEL_SEALED_REPLY 18 /* bytes of a reply with its checksum */
 #define TIRLWHEEL_PRINTOUT 65536  /* bytes of the player's buffer */
@@ -77,8 +81,10 @@ extern "C" {
  *                                                                                                           nothing on the air
  *   12  the session names a sector the image lacks, or has a stage or a full register with nobody authenticated,
  *       or the twelve bytes are no session's record                                                         nothing
+ *   29  the figures are outside their ranges; a Halt's too
+ *       (tirlwheel_kept_frame and tirlwheel_kept_sealed_frame only)                                         nothing
  *   14  fewer than three bytes, or the last two are not the checksum of the rest; a Halt's too
- *       (tirlwheel_card_sealed_frame and tirlwheel_sealed_frame only)                                       NAK
+ *       (tirlwheel_kept_sealed_frame, tirlwheel_card_sealed_frame and tirlwheel_sealed_frame only)          NAK
  *    1  unknown code, wrong length, empty frame, or a Halt whose second byte is not 00h                     nothing
  *    2  no such block                                                                                       NAK
  *    3  the block's sector is not the authenticated one, or none is                                         NAK
@@ -90,6 +96,7 @@ extern "C" {
  *    9  Transfer with an empty register                                                                     NAK
  *   13  the operand of an increment or a decrement is below zero                                            NAK
  *   10  the result of a value operation is outside -2,147,483,648 to 2,147,483,647                          NAK
+ *   29  the figures would leave their ranges with what is to be stored (the same two calls as above)        nothing
  *
  * Personalize UID Usage, 40h and one byte for the type, is an EV1's: to an old card it is an unknown code, 1. It is refused with 3, 5
  * and 7 as a Read of block 0 is, and then with
@@ -129,6 +136,45 @@ uint32_t tirlwheel_card_sealed_frame(uint8_t *image, size_t image_len, uint8_t c
  * air, the fresh session, sixteen zeros. The card's record stays as it is, and so does its choice. */
 uint32_t tirlwheel_card_reset(const uint8_t card[4], uint8_t session[12], uint8_t reply[16]);
 
+/* The figures of a card: how many of its blocks are value blocks, and the sum of their values. Block 0 and the trailers do not count,
+ * whatever they read as. Sixteen bytes, kept where the image and the record are kept:
+ *
+ *   bytes 0..7   the count, signed, low byte first
+ *   bytes 8..15  the sum, signed, low byte first
+ *
+ * They are in range where the count is 0 to 255 and the sum is 255 times a value's range: -547,608,330,240 to 547,608,329,985. Every
+ * card's are. Any sixteen bytes are figures: those outside are refused by 29, and none is taken for another. */
+
+/* Opens a card: counts its figures in full, from the image as it stands. The result is the number: 0, or
+ *
+ *   11  the four bytes are no card's record; the image is not 1,024 or 4,096 bytes long, or not 4,096 for an EV1
+ *
+ * `figures` is written on every call: sixteen zeros for a refusal. Open again after anything but the calls below has changed the
+ * image, be it a frame without figures, tirlwheel_mend, tirlwheel_write_directory or tirlwheel_write_access. */
+uint32_t tirlwheel_open(const uint8_t *image, size_t image_len, const uint8_t card[4], uint8_t figures[16]);
+
+/* One frame as for tirlwheel_card_frame and tirlwheel_card_sealed_frame, with the card's figures: `figures` are those before the frame,
+ * and afterwards the ones to hand to the next call. Figures that came from an opening are a full count of the image after every call, as
+ * long as these calls alone change it, and 29 never comes then. Only one block is looked at for that.
+ *
+ * For any figures in range: an accepted Write or Transfer of a data block takes off what the block's old content had to them and adds what
+ * its new content has, 1 and its value for a value block and nothing for any other. Only what comes of both is judged, and not the step
+ * between: with a count of 0 a value block may be written over a value block. If it is outside, 29, before anything is stored. Every
+ * other frame gives the figures back as they came, and so does every refusal. But for 29, everything else is what the call without
+ * figures gives.
+ *
+ * 29 comes after 11 and 12 and before 14 and 1, and once more last of all. Nothing goes on the air; the session is fresh, the reply
+ * zeros; image, record and figures stay as they were. Where the four bytes are no card's record, 11, they and the figures come back as
+ * they were. */
+uint32_t tirlwheel_kept_frame(uint8_t *image, size_t image_len, uint8_t card[4], uint8_t figures[16], uint8_t session[12],
+                              const uint8_t *frame, size_t frame_len, uint8_t reply[16]);
+uint32_t tirlwheel_kept_sealed_frame(uint8_t *image, size_t image_len, uint8_t card[4], uint8_t figures[16], uint8_t session[12],
+                                     const uint8_t *frame, size_t frame_len, uint8_t reply[18]);
+
+/* The field reset as for tirlwheel_card_reset: always accepted, whatever the record, the figures and the session were. Record and figures
+ * stay as they are, in range or not. */
+uint32_t tirlwheel_kept_reset(const uint8_t card[4], const uint8_t figures[16], uint8_t session[12], uint8_t reply[16]);
+
 /* The short form for an old card: what tirlwheel_card_frame, tirlwheel_card_sealed_frame and tirlwheel_card_reset give with four zeros
  * for the card's record, which an old card never changes. */
 uint32_t tirlwheel_frame(uint8_t *image, size_t image_len, uint8_t session[12], const uint8_t *frame, size_t frame_len,
@@ -148,7 +194,7 @@ size_t tirlwheel_play(const uint8_t *script, size_t script_len, uint8_t printout
  * and 24, where some are left over, go by the new end. */
 size_t tirlwheel_play_ev1(const uint8_t *script, size_t script_len, uint8_t printout[65536]);
 
-/* The desk's tools take no card's record: an image is looked up, mended and issued in the same way for either edition, and 11 there asks
+/* The desk's other tools take no card's record: an image is looked up, mended and issued in the same way for either edition, and 11 there asks
  * for one of the two sizes alone. They take no session either: keys, rights and blocked sectors play no part. */
 
 /* Which sector is an application's, by the MIFARE Application Directory of NXP's AN10787. The image is read as it stands: no session
@@ -196,8 +242,7 @@ uint32_t tirlwheel_lookup(const uint8_t *image, size_t image_len, uint32_t appli
  *   19  no majority: the three readings of the value all differ, or no three of the address byte's agree. Sixteen zeros are such a
  *       block: two readings of their value are 0, and the address byte's are two against two
  *
- * What any other tool keeps beside an image, such as figures that it took from its blocks, does not know of this call: open it anew
- * afterwards. */
+ * The figures of a card do not know of this call: open it anew afterwards. */
 uint32_t tirlwheel_mend(uint8_t *image, size_t image_len, const uint8_t *names, size_t names_len, uint8_t report[768]);
 
 /* The list of a directory, as the next two calls have it: the application numbers in the order of their sectors, two bytes each, the low
@@ -220,7 +265,7 @@ uint32_t tirlwheel_mend(uint8_t *image, size_t image_len, const uint8_t *names, 
  *   15  a card of fewer than sixteen sectors, which has no room for a directory; neither of the two sizes is one
  *   27  the list has neither 30 bytes nor, on an image of 4,096 bytes, 76; so also an odd number of bytes, and 76 for 1,024
  *
- * What any other tool keeps beside an image does not know of this call and of tirlwheel_write_access: open it anew afterwards. */
+ * The figures of a card do not know of this call and of tirlwheel_write_access: open it anew afterwards. */
 uint32_t tirlwheel_write_directory(uint8_t *image, size_t image_len, const uint8_t infos[2], const uint8_t *numbers, size_t numbers_len);
 
 /* Reads the directory of an image in full. A result has two bytes, and above them zeros:

@@ -1,6 +1,6 @@
 // The libraries are built by `rt staticlib NAME`, one for each of these names, beside this crate or where TIRLWHEEL_LIB says.
-const LIBRARIES: [&str; 7] = [
-    "edge", "chip", "cardedge", "cardchip", "printout", "evprint", "desk",
+const LIBRARIES: [&str; 9] = [
+    "edge", "chip", "cardedge", "cardchip", "keptedge", "keptchip", "printout", "evprint", "desk",
 ];
 
 fn main() {

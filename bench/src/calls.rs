@@ -2,6 +2,7 @@
 
 use crate::card::SealedReply;
 use crate::edition::{CardBytes, Edition};
+use crate::figures::FigureBytes;
 use crate::issuing::{GroupBits, Infos, Numbers};
 use crate::layout::BlockBytes;
 use crate::mending::Report;
@@ -17,6 +18,12 @@ pub type FieldResetCall = unsafe extern "C" fn(*mut Record, *mut BlockBytes) -> 
 pub type CardFrameCall = unsafe extern "C" fn(*mut u8, usize, *mut CardBytes, *mut Record, *const u8, usize, *mut BlockBytes) -> u32;
 pub type CardSealedFrameCall = unsafe extern "C" fn(*mut u8, usize, *mut CardBytes, *mut Record, *const u8, usize, *mut SealedReply) -> u32;
 pub type CardResetCall = unsafe extern "C" fn(*mut CardBytes, *mut Record, *mut BlockBytes) -> u32;
+pub type OpenCall = unsafe extern "C" fn(*const u8, usize, *const CardBytes, *mut FigureBytes) -> u32;
+pub type KeptFrameCall =
+    unsafe extern "C" fn(*mut u8, usize, *mut CardBytes, *mut FigureBytes, *mut Record, *const u8, usize, *mut BlockBytes) -> u32;
+pub type KeptSealedFrameCall =
+    unsafe extern "C" fn(*mut u8, usize, *mut CardBytes, *mut FigureBytes, *mut Record, *const u8, usize, *mut SealedReply) -> u32;
+pub type KeptResetCall = unsafe extern "C" fn(*const CardBytes, *const FigureBytes, *mut Record, *mut BlockBytes) -> u32;
 pub type PlayCall = unsafe extern "C" fn(*const u8, usize, *mut Printout) -> usize;
 pub type LookupCall = unsafe extern "C" fn(*const u8, usize, u32) -> u32;
 pub type MendCall = unsafe extern "C" fn(*mut u8, usize, *const u8, usize, *mut Report) -> u32;
@@ -55,6 +62,28 @@ extern "C" {
         reply: *mut SealedReply,
     ) -> u32;
     fn tirlwheel_card_reset(card: *mut CardBytes, session: *mut Record, reply: *mut BlockBytes) -> u32;
+    fn tirlwheel_open(image: *const u8, image_len: usize, card: *const CardBytes, figures: *mut FigureBytes) -> u32;
+    fn tirlwheel_kept_frame(
+        image: *mut u8,
+        image_len: usize,
+        card: *mut CardBytes,
+        figures: *mut FigureBytes,
+        session: *mut Record,
+        frame: *const u8,
+        frame_len: usize,
+        reply: *mut BlockBytes,
+    ) -> u32;
+    fn tirlwheel_kept_sealed_frame(
+        image: *mut u8,
+        image_len: usize,
+        card: *mut CardBytes,
+        figures: *mut FigureBytes,
+        session: *mut Record,
+        frame: *const u8,
+        frame_len: usize,
+        reply: *mut SealedReply,
+    ) -> u32;
+    fn tirlwheel_kept_reset(card: *const CardBytes, figures: *const FigureBytes, session: *mut Record, reply: *mut BlockBytes) -> u32;
     fn tirlwheel_play(script: *const u8, script_len: usize, printout: *mut Printout) -> usize;
     fn tirlwheel_play_ev1(script: *const u8, script_len: usize, printout: *mut Printout) -> usize;
     fn tirlwheel_lookup(image: *const u8, image_len: usize, application: u32) -> u32;
@@ -73,6 +102,10 @@ pub struct Card {
     pub card_frame_call: CardFrameCall,
     pub card_sealed_frame_call: CardSealedFrameCall,
     pub card_reset_call: CardResetCall,
+    pub open_call: OpenCall,
+    pub kept_frame_call: KeptFrameCall,
+    pub kept_sealed_frame_call: KeptSealedFrameCall,
+    pub kept_reset_call: KeptResetCall,
     pub play_call: PlayCall,
     pub play_ev1_call: PlayCall,
     pub lookup_call: LookupCall,
@@ -90,6 +123,10 @@ pub const LIBRARY: Card = Card {
     card_frame_call: tirlwheel_card_frame,
     card_sealed_frame_call: tirlwheel_card_sealed_frame,
     card_reset_call: tirlwheel_card_reset,
+    open_call: tirlwheel_open,
+    kept_frame_call: tirlwheel_kept_frame,
+    kept_sealed_frame_call: tirlwheel_kept_sealed_frame,
+    kept_reset_call: tirlwheel_kept_reset,
     play_call: tirlwheel_play,
     play_ev1_call: tirlwheel_play_ev1,
     lookup_call: tirlwheel_lookup,
@@ -132,6 +169,45 @@ impl Card {
     pub fn card_reset(&self, card: &mut CardBytes, session: &mut Record, reply: &mut BlockBytes) -> u32 {
         // SAFETY: distinct borrows do not overlap.
         unsafe { (self.card_reset_call)(card, session, reply) }
+    }
+
+    /// The number of the call.
+    pub fn open(&self, image: &[u8], card: &CardBytes, figures: &mut FigureBytes) -> u32 {
+        // SAFETY: true length, and distinct borrows do not overlap.
+        unsafe { (self.open_call)(image.as_ptr(), image.len(), card, figures) }
+    }
+
+    /// As for a frame to a card with its record.
+    pub fn kept_frame(
+        &self,
+        image: &mut [u8],
+        card: &mut CardBytes,
+        figures: &mut FigureBytes,
+        session: &mut Record,
+        frame: &[u8],
+        reply: &mut BlockBytes,
+    ) -> u32 {
+        // SAFETY: as for a frame.
+        unsafe { (self.kept_frame_call)(image.as_mut_ptr(), image.len(), card, figures, session, frame.as_ptr(), frame.len(), reply) }
+    }
+
+    pub fn kept_sealed_frame(
+        &self,
+        image: &mut [u8],
+        card: &mut CardBytes,
+        figures: &mut FigureBytes,
+        session: &mut Record,
+        frame: &[u8],
+        reply: &mut SealedReply,
+    ) -> u32 {
+        // SAFETY: as for a frame.
+        unsafe { (self.kept_sealed_frame_call)(image.as_mut_ptr(), image.len(), card, figures, session, frame.as_ptr(), frame.len(), reply) }
+    }
+
+    /// Both are lent as they are in a run, though the call may only read them.
+    pub fn kept_reset(&self, card: &mut CardBytes, figures: &mut FigureBytes, session: &mut Record, reply: &mut BlockBytes) -> u32 {
+        // SAFETY: distinct borrows do not overlap.
+        unsafe { (self.kept_reset_call)(card, figures, session, reply) }
     }
 
     /// The length of the printout of an edition's player.

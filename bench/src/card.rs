@@ -50,7 +50,7 @@ pub struct Answer {
 }
 
 pub fn refusal(number: u8) -> Answer {
-    let sign = if matches!(number, 1 | 4 | 11 | 12) { Sign::Nothing } else { Sign::Nak };
+    let sign = if matches!(number, 1 | 4 | 11 | 12 | 29) { Sign::Nothing } else { Sign::Nak };
     Answer { number, sign }
 }
 
@@ -64,6 +64,23 @@ const SEALED: u8 = 1;
 pub const RECORD: u8 = 2;
 pub const SEALED_RECORD: u8 = 3;
 pub const PLAYED_RECORD: u8 = 4;
+/// With its record and its figures.
+pub const KEPT: u8 = 5;
+pub const SEALED_KEPT: u8 = 6;
+
+/// What is kept beside the blocks of an image.
+pub trait Beside {
+    /// The content of a data block is about to change, from what reads as `old` to what reads as `new`; or the number that refuses it.
+    fn settle(&mut self, old: Option<Value>, new: Option<Value>) -> Result<(), u8>;
+}
+
+/// Nothing is kept.
+impl Beside for () {
+    #[inline(always)]
+    fn settle(&mut self, _: Option<Value>, _: Option<Value>) -> Result<(), u8> {
+        Ok(())
+    }
+}
 
 pub fn frame(image: &mut [u8], session: &mut Session, frame: &[u8], reply: &mut BlockBytes) -> Answer {
     *reply = [0; 16];
@@ -107,13 +124,13 @@ pub fn field_reset(session: &mut Session, reply: &mut BlockBytes) -> Answer {
 
 fn judge(image: &mut [u8], session: &mut Session, frame: &[u8], reply: &mut BlockBytes) -> Judged {
     fit::<BARE>(image, session)?;
-    obey::<BARE>(image, session, frame, reply)
+    obey::<BARE>(image, session, &mut (), frame, reply)
 }
 
 fn judge_sealed(image: &mut [u8], session: &mut Session, frame: &[u8], reply: &mut BlockBytes) -> Judged {
     fit::<SEALED>(image, session)?;
     let bytes = unsealed(frame).ok_or(14)?;
-    obey::<SEALED>(image, session, bytes, reply)
+    obey::<SEALED>(image, session, &mut (), bytes, reply)
 }
 
 /// The checks that come before the frame's own.
@@ -133,10 +150,10 @@ pub fn unsealed(frame: &[u8]) -> Option<&[u8]> {
     (!bytes.is_empty() && *seal == seal_of(bytes)).then_some(bytes)
 }
 
-pub fn obey<const ENTRY: u8>(image: &mut [u8], session: &mut Session, frame: &[u8], reply: &mut BlockBytes) -> Judged {
+pub fn obey<const ENTRY: u8>(image: &mut [u8], session: &mut Session, beside: &mut impl Beside, frame: &[u8], reply: &mut BlockBytes) -> Judged {
     match session.stage {
-        Stage::None => command::<ENTRY>(image, session, frame, reply),
-        Stage::Write { block } => write_data::<ENTRY>(image, session, block, frame),
+        Stage::None => command::<ENTRY>(image, session, beside, frame, reply),
+        Stage::Write { block } => write_data::<ENTRY>(image, session, beside, block, frame),
         Stage::Value { operation, block } => operand::<ENTRY>(image, session, operation, block, frame),
     }
 }
@@ -148,7 +165,7 @@ fn is_coherent<const ENTRY: u8>(image: &[u8], session: &Session) -> bool {
     }
 }
 
-fn command<const ENTRY: u8>(image: &mut [u8], session: &mut Session, frame: &[u8], reply: &mut BlockBytes) -> Judged {
+fn command<const ENTRY: u8>(image: &mut [u8], session: &mut Session, beside: &mut impl Beside, frame: &[u8], reply: &mut BlockBytes) -> Judged {
     match *frame {
         [0x60, block, ref key @ ..] if key.len() == 6 => authenticate::<ENTRY>(image, session, block, Key::A, key.try_into().unwrap()),
         [0x61, block, ref key @ ..] if key.len() == 6 => authenticate::<ENTRY>(image, session, block, Key::B, key.try_into().unwrap()),
@@ -157,7 +174,7 @@ fn command<const ENTRY: u8>(image: &mut [u8], session: &mut Session, frame: &[u8
         [0xC1, block] => value_operation::<ENTRY>(image, session, Operation::Increment, block),
         [0xC0, block] => value_operation::<ENTRY>(image, session, Operation::Decrement, block),
         [0xC2, block] => value_operation::<ENTRY>(image, session, Operation::Restore, block),
-        [0xB0, block] => transfer::<ENTRY>(image, session, block),
+        [0xB0, block] => transfer::<ENTRY>(image, session, beside, block),
         [0x50, 0x00] => {
             *session = FRESH;
             Ok(Sign::Nothing)
@@ -230,13 +247,14 @@ fn write<const ENTRY: u8>(image: &[u8], session: &mut Session, block: u8) -> Jud
     Ok(Sign::Ack)
 }
 
-fn write_data<const ENTRY: u8>(image: &mut [u8], session: &mut Session, block: u8, frame: &[u8]) -> Judged {
+fn write_data<const ENTRY: u8>(image: &mut [u8], session: &mut Session, beside: &mut impl Beside, block: u8, frame: &[u8]) -> Judged {
     let data: &BlockBytes = frame.try_into().map_err(|_| 1)?;
     let (key, trailer_row) = permitted::<ENTRY>(image, session, block, WRITE, false)?;
     let stored = bytes_of_mut(image, block);
     if is_trailer(block) {
         write_trailer::<ENTRY>(stored, data, key, trailer_row);
     } else {
+        beside.settle(Value::decode(stored), Value::decode(data))?;
         *stored = *data;
     }
     session.stage = Stage::None;
@@ -290,9 +308,10 @@ fn operand<const ENTRY: u8>(image: &[u8], session: &mut Session, operation: Oper
     Ok(Sign::Nothing)
 }
 
-fn transfer<const ENTRY: u8>(image: &mut [u8], session: &Session, block: u8) -> Judged {
+fn transfer<const ENTRY: u8>(image: &mut [u8], session: &Session, beside: &mut impl Beside, block: u8) -> Judged {
     permitted::<ENTRY>(image, session, block, DECREMENT, true)?;
     let value = session.register.ok_or(9)?;
+    beside.settle(Value::decode(bytes_of(image, block)), Some(value))?;
     *bytes_of_mut(image, block) = value.encode();
     Ok(Sign::Ack)
 }

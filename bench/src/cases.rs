@@ -1,17 +1,19 @@
 //! The calls that are timed, counted and measured: a ride, each command alone, each refusal, some with their checksum; on a 1K and on a 4K card.
-//! Then the same rides and what is new with a card's record, on an old card and on an EV1.
+//! Then the same rides and what is new with a card's record, on an old card and on an EV1; and with figures.
 
 use crate::calls::Card;
 use crate::card::{Operation, Session, Stage, FRESH, SEALED_BYTES};
 use crate::crc::seal_of;
 use crate::directory::{checksum, place_of, ANNOUNCING, FIRST, SECOND};
 use crate::edition::{of_card, CardBytes, CardRecord, Edition, Usage};
+use crate::figures::{full_count, FigureBytes, Figures, MOST};
 use crate::issuing::{GroupBits, Infos, FIRST_BYTES, NUMBERS_BYTES};
 use crate::layout::{blocks_of, bytes_of_mut, is_trailer, trailer_of, BLOCK_BYTES};
 use crate::reader::Sent;
 use crate::record::{of_session, Record};
 use crate::rights::Key;
 use crate::scripts;
+use crate::side::Held;
 use crate::value::Value;
 
 const TRANSPORT_TRAILER: [u8; 16] = [255, 255, 255, 255, 255, 255, 0xFF, 0x07, 0x80, 0x69, 255, 255, 255, 255, 255, 255];
@@ -24,15 +26,18 @@ pub struct Case {
     pub image: Vec<u8>,
     /// The card's record, for the calls that take one.
     card: Option<CardBytes>,
+    /// The figures, for the calls that take both.
+    figures: Option<FigureBytes>,
     session: Record,
     sent: Vec<Sent>,
 }
 
 impl Case {
     pub fn send(&self, card: &Card, image: &mut [u8]) {
-        match self.card {
-            None => self.send_plain(card, image),
-            Some(record) => self.send_with(card, record, image),
+        match (self.card, self.figures) {
+            (None, _) => self.send_plain(card, image),
+            (Some(record), None) => self.send_with(card, record, image),
+            (Some(record), Some(figures)) => self.send_kept(card, record, figures, image),
         }
     }
 
@@ -60,12 +65,36 @@ impl Case {
         std::hint::black_box((&record, &session, &reply));
     }
 
-    /// The only call of a case that has one, and the records that it starts from.
-    pub fn only(&self) -> Option<(Option<CardBytes>, Record, &Sent)> {
+    fn send_kept(&self, card: &Card, mut record: CardBytes, mut figures: FigureBytes, image: &mut [u8]) {
+        let (mut session, mut reply) = (self.session, [0; SEALED_BYTES]);
+        for sent in &self.sent {
+            match sent {
+                Sent::Frame(frame) => card.kept_frame(image, &mut record, &mut figures, &mut session, frame, reply.first_chunk_mut().unwrap()),
+                Sent::Sealed(frame) => card.kept_sealed_frame(image, &mut record, &mut figures, &mut session, frame, &mut reply),
+                Sent::FieldReset => card.kept_reset(&mut record, &mut figures, &mut session, reply.first_chunk_mut().unwrap()),
+            };
+        }
+        std::hint::black_box((&record, &figures, &session, &reply));
+    }
+
+    /// The only call of a case that has one, and what it starts from.
+    pub fn only(&self) -> Option<(Held, &Sent)> {
         match &self.sent[..] {
-            [sent] => Some((self.card, self.session, sent)),
+            [sent] => Some((Held { card: self.card, figures: self.figures, session: self.session }, sent)),
             _ => None,
         }
+    }
+
+    /// The same with the figures of an opening.
+    fn kept(self) -> Case {
+        let figures = full_count(&self.image);
+        self.kept_from(figures)
+    }
+
+    fn kept_from(mut self, figures: Figures) -> Case {
+        self.name = format!("kept {}", self.name.replace("ride of five frames", "ride"));
+        self.figures = Some(figures.bytes());
+        self
     }
 
     /// The same with a card's record.
@@ -106,7 +135,7 @@ impl Place {
 
     fn case(&self, name: &str, session: Session, frames: &[&[u8]]) -> Case {
         let sent = frames.iter().map(|frame| Sent::Frame(frame.to_vec())).collect();
-        Case { name: self.name(name), image: self.image.clone(), card: None, session: of_session(&session), sent }
+        Case { name: self.name(name), image: self.image.clone(), card: None, figures: None, session: of_session(&session), sent }
     }
 
     fn holder(&self) -> Session {
@@ -217,6 +246,66 @@ fn with_record() -> Vec<Case> {
     cases
 }
 
+/// The calls with figures: rides on either edition; on a small old card and on an EV1 what stores, a Read, a Halt, and refusals, by both 29 among them.
+fn with_figures() -> Vec<Case> {
+    let [small, large] = places();
+    let (old, ev1) = (|case: Case| case.on(Edition::Old, None), |case: Case| case.on(Edition::Ev1, None));
+    let too_many = |image: &[u8]| Figures { count: MOST + 1, ..full_count(image) };
+    let most = |image: &[u8]| Figures { count: MOST, ..full_count(image) };
+    let mut cases: Vec<Case> = [&small, &large].map(|place| old(place.ride()).kept()).into();
+    for (place, on) in [(&small, old as fn(Case) -> Case), (&large, ev1 as fn(Case) -> Case)] {
+        let (holder, purse, image) = (place.holder(), place.purse, &place.image);
+        let writing = |block| Session { stage: Stage::Write { block }, ..holder };
+        let case = |name: &str, session, frame: &[u8]| on(place.case(name, session, &[frame]));
+        cases.extend([
+            case("Read", holder, &[0x30, purse]).kept(),
+            case("Write's data", writing(purse), &PURSE.encode()).kept(),
+            case("Write's data, trailer", writing(trailer_of(place.sector)), &TRANSPORT_TRAILER).kept(),
+            case("Transfer", holder, &[0xB0, purse]).kept(),
+            case("Halt", holder, &[0x50, 0x00]).kept(),
+            case("refused 12", Session { authenticated: None, ..holder }, &[0x30, purse]).kept(),
+            case("refused 29 first", holder, &[0x30, purse]).kept_from(too_many(image)),
+            case("refused 29 last", writing(place.plain), &PURSE.encode()).kept_from(most(image)),
+            case("refused 3", Session { authenticated: Some((0, Key::A)), ..holder }, &[0x30, purse]).kept(),
+        ]);
+        let mut reset = on(place.case("field reset", holder, &[])).kept();
+        reset.sent.push(Sent::FieldReset);
+        cases.push(reset);
+    }
+    cases.push(ev1(large.ride()).kept());
+    cases.extend([&small, &large].map(|place| old(with_seals(place.ride())).kept()));
+    cases.extend(large.sealed().into_iter().map(ev1).map(Case::kept));
+    cases
+}
+
+/// A card to open.
+pub struct Opening {
+    pub name: &'static str,
+    pub image: Vec<u8>,
+    pub card: CardBytes,
+}
+
+/// Cards as they are delivered but for a purse, and with a value in every block; and one that is none.
+pub fn openings() -> Vec<Opening> {
+    let [small, large] = places().map(|place| place.image);
+    let full = |image: &[u8]| {
+        let mut image = image.to_vec();
+        for block in (0..image.len() / BLOCK_BYTES).map(|block| block as u8).filter(|block| !is_trailer(*block)) {
+            *bytes_of_mut(&mut image, block) = PURSE.encode();
+        }
+        image
+    };
+    [
+        ("open, 1K", small.clone()),
+        ("open, 4K", large.clone()),
+        ("open, 1K, all value blocks", full(&small)),
+        ("open, 4K, all value blocks", full(&large)),
+        ("open, refused 11", small[1..].to_vec()),
+    ]
+    .map(|(name, image)| Opening { name, image, card: of_card(&CardRecord { edition: Edition::Old, choice: None }) })
+    .into()
+}
+
 /// The same bytes, each frame with its checksum.
 fn with_seals(mut case: Case) -> Case {
     case.name = match case.name.strip_prefix("EV1 ") {
@@ -262,7 +351,7 @@ pub fn all() -> Vec<Case> {
     let commands = places.iter().flat_map(Place::commands);
     let refusals = places.iter().flat_map(Place::refusals);
     let sealed = places.iter().flat_map(Place::sealed);
-    rides.chain(commands).chain(refusals).chain(sealed).chain(with_record()).collect()
+    rides.chain(commands).chain(refusals).chain(sealed).chain(with_record()).chain(with_figures()).collect()
 }
 
 /// A number to look up in an image.

@@ -209,7 +209,7 @@ pub struct Met {
 }
 
 /// What a frame is and for which block, or None where it is no command of the card. Second frames may have any length.
-fn command_of(session: &Record, frame: &[u8]) -> Option<(&'static str, u8)> {
+pub fn command_of(session: &Record, frame: &[u8]) -> Option<(&'static str, u8)> {
     Some(match (session[2], frame) {
         (1, _) => (WRITE_DATA, session[3]),
         (2, _) => (INCREMENT_OPERAND, session[3]),

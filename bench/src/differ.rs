@@ -1,7 +1,6 @@
 //! The differential test: the same random calls to the library and to the Rust card, everything that comes back compared.
 
-use crate::calls::{Card, LIBRARY, RUST};
-use crate::card::SealedReply;
+use crate::calls::{LIBRARY, RUST};
 use crate::card_cover::{self, CardCover};
 use crate::cards;
 use crate::cover::{self, Cover, ENOUGH, NUMBERS};
@@ -11,8 +10,9 @@ use crate::images;
 use crate::random::Random;
 use crate::reader::{Reader, Sent};
 use crate::record::Record;
-use crate::seals;
+use crate::seals::{bare, on_the_air};
 use crate::sessions;
+use crate::side::{self, Side};
 use crate::turns;
 
 const CALLS_PER_LINE: u64 = 100_000;
@@ -27,58 +27,7 @@ const CALLS_PER_SHORT_FORM: u64 = 8;
 const FULL_RUN: u64 = 1_000_000;
 /// The ends of the range must have been met in the first calls already.
 const FIRST_CALLS: u64 = 1_000;
-/// How much of a frame is printed.
-const SHOWN: usize = 40;
-/// Bytes on either side of a lent image, which no card may touch.
-const MARGIN: usize = 16;
 const OLD_CARD: CardBytes = [0; 4];
-
-/// What a card holds and has answered: an image between two margins, a record where the calls take one, a session, the last reply and result.
-#[derive(Clone, PartialEq)]
-struct Side {
-    image: Vec<u8>,
-    card: Option<CardBytes>,
-    session: Record,
-    reply: SealedReply,
-    result: u32,
-}
-
-impl Side {
-    fn new(image: &[u8]) -> Side {
-        let margin = [0xA5; MARGIN];
-        Side { image: [&margin, image, &margin].concat(), card: None, session: [0; 12], reply: [0; 18], result: 0 }
-    }
-
-    fn image(&self) -> &[u8] {
-        &self.image[MARGIN..self.image.len() - MARGIN]
-    }
-
-    fn send(&mut self, card: &Card, sent: &Sent) {
-        // What is lent to a call without checksum leaves the last two alone.
-        self.reply = [0xEE; 18];
-        let end = self.image.len() - MARGIN;
-        let (image, session, reply) = (&mut self.image[MARGIN..end], &mut self.session, &mut self.reply);
-        self.result = match (sent, &mut self.card) {
-            (Sent::Frame(frame), None) => card.frame(image, session, frame, reply.first_chunk_mut().unwrap()),
-            (Sent::Sealed(frame), None) => card.sealed_frame(image, session, frame, reply),
-            (Sent::FieldReset, None) => card.field_reset(session, reply.first_chunk_mut().unwrap()),
-            (Sent::Frame(frame), Some(record)) => card.card_frame(image, record, session, frame, reply.first_chunk_mut().unwrap()),
-            (Sent::Sealed(frame), Some(record)) => card.card_sealed_frame(image, record, session, frame, reply),
-            (Sent::FieldReset, Some(record)) => card.card_reset(record, session, reply.first_chunk_mut().unwrap()),
-        };
-    }
-
-    /// The same side with another record.
-    fn with(&self, card: Option<CardBytes>) -> Side {
-        Side { card, ..self.clone() }
-    }
-
-    fn describe(&self, name: &str) {
-        let [number, sign, value, rest] = self.result.to_le_bytes();
-        println!("  {name:8} number {number} sign {sign} value {value} rest {rest} card {:02X?} session {:02X?}", self.card, self.session);
-        println!("  {:8} reply {:02X?}", "", self.reply);
-    }
-}
 
 struct Differ {
     random: Random,
@@ -178,33 +127,20 @@ impl Differ {
         })
     }
 
-    /// Some frames get longer, and a share of them gets a checksum.
-    fn on_the_air(&mut self, sent: Sent) -> Sent {
-        let Sent::Frame(mut frame) = sent else { return sent };
-        if self.random.percent(4) {
-            frames::lengthen(&mut self.random, &mut frame);
-        }
-        if self.random.percent(self.sealed_share) {
-            Sent::Sealed(seals::any(&mut self.random, &frame))
-        } else {
-            Sent::Frame(frame)
-        }
-    }
-
     /// Gives whether both cards did the same.
     fn call(&mut self, sent: Sent) -> bool {
-        let sent = &self.on_the_air(sent);
-        let (card, session, met) = (self.rust.card, self.rust.session, self.met(sent));
-        let short_form = (card.is_none() && self.calls.is_multiple_of(CALLS_PER_SHORT_FORM)).then(|| self.library.with(Some(OLD_CARD)));
+        let sent = &on_the_air(&mut self.random, self.sealed_share, sent);
+        let (before, met) = (self.rust.held(), self.met(sent));
+        let short_form = (before.card.is_none() && self.calls.is_multiple_of(CALLS_PER_SHORT_FORM)).then(|| self.library.with(Some(OLD_CARD)));
         self.library.send(&LIBRARY, sent);
         self.rust.send(&RUST, sent);
         self.calls += 1;
         let same = self.library == self.rust && short_form.is_none_or(|side| self.is_short_form(side, sent));
         if !same {
-            self.describe(card, &session, sent);
+            side::print_difference(sent, &before, &self.library, &self.rust);
             return false;
         }
-        self.count(card, &session, sent, met);
+        self.count(before.card, &before.session, sent, met);
         if self.calls.is_multiple_of(CALLS_PER_LINE) {
             println!("{:8} calls, no difference; {}", self.calls, self.cover.line());
         }
@@ -249,22 +185,6 @@ impl Differ {
         cover::met(self.rust.image(), &self.rust.session, bare(sent)?)
     }
 
-    fn describe(&self, card: Option<CardBytes>, session: &Record, sent: &Sent) {
-        match sent {
-            Sent::Frame(frame) => println!("  frame of {} bytes {:02X?}", frame.len(), &frame[..frame.len().min(SHOWN)]),
-            Sent::Sealed(frame) => println!("  sealed frame of {} bytes {:02X?}", frame.len(), &frame[..frame.len().min(SHOWN)]),
-            Sent::FieldReset => println!("  field reset"),
-        }
-        println!("  image of {} bytes, card {card:02X?}, session {session:02X?}", self.rust.image().len());
-        self.library.describe("library");
-        self.rust.describe("Rust");
-        for (at, (library, rust)) in self.library.image().iter().zip(self.rust.image()).enumerate() {
-            if library != rust {
-                println!("  image byte {at} (block {}): library {library:02X}, Rust {rust:02X}", at / 16);
-            }
-        }
-    }
-
     fn report(&self, seed: u64, count: u64) -> bool {
         println!("seed {seed}: {} calls, no difference", self.calls);
         println!("{} calls without a record were made again with an old card's, and gave the same", self.short_forms);
@@ -278,14 +198,5 @@ impl Differ {
         thin.iter().chain(&with_record).for_each(|thing| println!("  too seldom: {thing}"));
         println!("both ends of the range met in the first {FIRST_CALLS} calls: {}", if self.ends_met_at_first { "yes" } else { "no" });
         thin.is_empty() && with_record.is_empty() && self.ends_met_at_first || count < FULL_RUN
-    }
-}
-
-/// A frame without its checksum; none for a field reset.
-fn bare(sent: &Sent) -> Option<&[u8]> {
-    match sent {
-        Sent::Frame(frame) => Some(frame),
-        Sent::Sealed(frame) => Some(seals::inner(frame)),
-        Sent::FieldReset => None,
     }
 }

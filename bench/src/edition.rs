@@ -2,7 +2,7 @@
 //! Written from paper 02 and from tables 10 and 13 of the EV1 sheet, over the commands that both editions share.
 
 use crate::card::{answered, fit, obey, permitted, unsealed, with_seal};
-use crate::card::{Answer, Judged, SealedReply, Session, Sign, Stage, SEALED_RECORD};
+use crate::card::{Answer, Beside, Judged, SealedReply, Session, Sign, Stage, SEALED_RECORD};
 use crate::layout::{BlockBytes, BLOCK_BYTES};
 use crate::rights::READ;
 
@@ -88,7 +88,7 @@ pub fn sealed_frame(image: &mut [u8], card: &mut CardRecord, session: &mut Sessi
 
 /// The answer to a frame, a NAK with the value that the register gives it as the frame met it.
 #[inline(always)]
-fn valued(card: &mut CardRecord, session: &mut Session, judge: impl FnOnce(&mut CardRecord, &mut Session) -> Judged) -> Valued {
+pub fn valued(card: &mut CardRecord, session: &mut Session, judge: impl FnOnce(&mut CardRecord, &mut Session) -> Judged) -> Valued {
     let is_full = session.register.is_some();
     let judged = judge(card, session);
     let answer = answered(session, judged);
@@ -113,16 +113,16 @@ pub fn is_size(edition: Edition, image: &[u8]) -> bool {
 
 fn judge<const ENTRY: u8>(image: &mut [u8], card: &mut CardRecord, session: &mut Session, frame: &[u8], reply: &mut BlockBytes) -> Judged {
     fit_card::<ENTRY>(image, card, session)?;
-    obey_card::<ENTRY>(image, card, session, frame, reply)
+    obey_card::<ENTRY>(image, card, session, &mut (), frame, reply)
 }
 
 fn judge_sealed(image: &mut [u8], card: &mut CardRecord, session: &mut Session, frame: &[u8], reply: &mut BlockBytes) -> Judged {
     fit_card::<SEALED_RECORD>(image, card, session)?;
     let bytes = unsealed(frame).ok_or(14)?;
-    obey_card::<SEALED_RECORD>(image, card, session, bytes, reply)
+    obey_card::<SEALED_RECORD>(image, card, session, &mut (), bytes, reply)
 }
 
-fn fit_card<const ENTRY: u8>(image: &[u8], card: &CardRecord, session: &Session) -> Result<(), u8> {
+pub fn fit_card<const ENTRY: u8>(image: &[u8], card: &CardRecord, session: &Session) -> Result<(), u8> {
     if !is_size(card.edition, image) {
         return Err(11);
     }
@@ -130,10 +130,17 @@ fn fit_card<const ENTRY: u8>(image: &[u8], card: &CardRecord, session: &Session)
 }
 
 /// The one command that the editions do not share, or one of the others.
-fn obey_card<const ENTRY: u8>(image: &mut [u8], card: &mut CardRecord, session: &mut Session, frame: &[u8], reply: &mut BlockBytes) -> Judged {
+pub fn obey_card<const ENTRY: u8>(
+    image: &mut [u8],
+    card: &mut CardRecord,
+    session: &mut Session,
+    beside: &mut impl Beside,
+    frame: &[u8],
+    reply: &mut BlockBytes,
+) -> Judged {
     match (card.edition, session.stage, frame) {
         (Edition::Ev1, Stage::None, [0x40, usage]) => personalize::<ENTRY>(image, card, session, *usage),
-        _ => obey::<ENTRY>(image, session, frame, reply),
+        _ => obey::<ENTRY>(image, session, beside, frame, reply),
     }
 }
 

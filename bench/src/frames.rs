@@ -30,7 +30,7 @@ pub fn any(random: &mut Random, image: &[u8], sector: u8, awaited: Awaited) -> V
 }
 
 /// What the block holds, if the image has it.
-fn stored(image: &[u8], block: u8) -> Option<&BlockBytes> {
+pub fn stored(image: &[u8], block: u8) -> Option<&BlockBytes> {
     has_block(image, block).then(|| bytes_of(image, block))
 }
 
@@ -56,20 +56,23 @@ fn nearly(random: &mut Random, mut bytes: BlockBytes) -> BlockBytes {
 pub fn small_change(random: &mut Random, image: &[u8]) -> [Vec<u8>; 3] {
     let sector = random.below(usize::from(sectors(image))) as u8;
     let (block, code) = (block(random, sector), random.pick(&[0x60, 0x61]));
-    let key = stored_key(image, block, code);
     let data = stored(image, block).map_or([0; BLOCK_BYTES], |bytes| nearly(random, *bytes));
-    [[&[code, block], &key[..]].concat(), vec![0xA0, block], data.to_vec()]
+    [opener(image, block, code), vec![0xA0, block], data.to_vec()]
+}
+
+/// An Authenticate with the key of this code that the image holds.
+pub fn opener(image: &[u8], block: u8, code: u8) -> Vec<u8> {
+    [&[code, block], &stored_key(image, block, code)[..]].concat()
 }
 
 /// Personalize UID Usage from an Authenticate on, by a reader who knows the key and has a value in the register by then, where the rights allow.
 pub fn personalize_with_a_value(random: &mut Random, image: &[u8]) -> [Vec<u8>; 4] {
     let (block, code) = (random.pick(&[1, 2]), random.pick(&[0x60, 0x61]));
-    let key = stored_key(image, block, code);
-    [[&[code, block], &key[..]].concat(), vec![0xC2, block], vec![0; 4], personalize(random)]
+    [opener(image, block, code), vec![0xC2, block], vec![0; 4], personalize(random)]
 }
 
 /// For a value, often what takes it to the end of the range on its own side of zero, or one further.
-fn operand(random: &mut Random, stored: Option<&BlockBytes>) -> i32 {
+pub fn operand(random: &mut Random, stored: Option<&BlockBytes>) -> i32 {
     let value = stored.and_then(Value::decode);
     let to_the_end = value.map(|Value { number, .. }| if number < 0 { number - i32::MIN } else { i32::MAX - number });
     match (random.below(20), to_the_end) {

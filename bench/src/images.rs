@@ -8,7 +8,7 @@ pub const RIGHT_SIZES: [usize; 2] = [1024, 4096];
 /// The last two are a card's where only two bytes of the length are looked at.
 pub const WRONG_SIZES: [usize; 14] = [0, 1, 16, 1008, 1023, 1025, 1040, 2048, 4080, 4095, 4097, 4112, 1024 + 65536, 4096 + 65536];
 const NUMBERS_AT_THE_EDGE: [i32; 8] = [0, 1, -1, 100, i32::MAX, i32::MIN, i32::MAX - 1, i32::MIN + 1];
-const TRANSPORT_BITS: [u8; 3] = [0xFF, 0x07, 0x80];
+pub const TRANSPORT_BITS: [u8; 3] = [0xFF, 0x07, 0x80];
 
 pub fn any_size(random: &mut Random) -> Vec<u8> {
     if random.percent(4) {
@@ -79,6 +79,22 @@ pub fn trailer(random: &mut Random) -> BlockBytes {
     trailer[9] = random.byte();
     trailer[10..16].copy_from_slice(&key(random));
     trailer
+}
+
+/// Sixteen bytes that are a trailer with such access bytes as any has, and read as a value block all the same.
+pub fn value_trailer(random: &mut Random) -> BlockBytes {
+    let [b6, b7, b8] = access_bytes(random);
+    let number = i32::from_le_bytes([b8, random.byte(), !b6, !b7]);
+    Value { number, address: random.byte() }.encode()
+}
+
+/// A card whose every data block, and block 0, holds a value, each of these.
+pub fn rich(random: &mut Random, bytes: usize, numbers: &[i32]) -> Vec<u8> {
+    let mut image = of_size(random, bytes);
+    for block in (0..bytes / BLOCK_BYTES).map(|block| block as u8).filter(|block| !is_trailer(*block)) {
+        *bytes_of_mut(&mut image, block) = Value { number: random.pick(numbers), address: random.byte() }.encode();
+    }
+    image
 }
 
 fn key(random: &mut Random) -> [u8; 6] {

@@ -23,13 +23,17 @@ pub fn count(card: &Card) {
 }
 
 /// The calls of the library, by what stands behind `tirlwheel_`; the Rust card's begin with `rust_`.
-const CALLS: [&str; 14] = [
+const CALLS: [&str; 18] = [
     "frame",
     "sealed_frame",
     "field_reset",
     "card_frame",
     "card_sealed_frame",
     "card_reset",
+    "open",
+    "kept_frame",
+    "kept_sealed_frame",
+    "kept_reset",
     "play",
     "play_ev1",
     "lookup",

@@ -10,6 +10,7 @@ mod crc;
 mod differ;
 mod directory;
 mod edition;
+mod figures;
 mod frames;
 mod images;
 mod instructions;
@@ -28,8 +29,11 @@ mod rust_calls;
 mod scripts;
 mod seals;
 mod sessions;
+mod side;
 mod speed;
 mod stack;
+mod total_cover;
+mod totals;
 mod turns;
 mod value;
 
@@ -39,13 +43,14 @@ use std::io::{Read, Write};
 use std::process::ExitCode;
 
 const USAGE: &str =
-    "usage: bench differ SEED COUNT | scripts old|ev1 SEED COUNT PLAYER | print old|ev1 < SCRIPT | lookups SEED COUNT | mendings SEED COUNT | issues SEED COUNT | speed | stack";
+    "usage: bench differ SEED COUNT | totals SEED COUNT | scripts old|ev1 SEED COUNT PLAYER | print old|ev1 < SCRIPT | lookups SEED COUNT | mendings SEED COUNT | issues SEED COUNT | speed | stack";
 
 fn main() -> ExitCode {
     let words: Vec<String> = std::env::args().skip(1).collect();
     let words: Vec<&str> = words.iter().map(String::as_str).collect();
     let good = match words[..] {
         ["differ", seed, count] => differ::run(number(seed), number(count)),
+        ["totals", seed, count] => totals::run(number(seed), number(count)),
         ["scripts", edition, seed, count, player] => scripts::run(edition_of(edition), number(seed), number(count), player),
         ["print", edition] => print(edition_of(edition)),
         ["lookups", seed, count] => lookups::run(number(seed), number(count)),

@@ -4,6 +4,7 @@ use crate::calls::{Card, Printout};
 use crate::card::{self, Answer, SealedReply, Session, FRESH, RECORD};
 use crate::directory;
 use crate::edition::{self, is_size, of_card, to_card, CardBytes, CardRecord, Valued};
+use crate::figures::{self, FigureBytes, Figures, ZERO};
 use crate::issuing::{self, GroupBits, Infos, Numbers};
 use crate::layout::{is_image, BlockBytes};
 use crate::mending::{self, Report};
@@ -18,6 +19,10 @@ pub const CARD: Card = Card {
     card_frame_call: rust_card_frame,
     card_sealed_frame_call: rust_card_sealed_frame,
     card_reset_call: rust_card_reset,
+    open_call: rust_open,
+    kept_frame_call: rust_kept_frame,
+    kept_sealed_frame_call: rust_kept_sealed_frame,
+    kept_reset_call: rust_kept_reset,
     play_call: rust_play,
     play_ev1_call: rust_play_ev1,
     lookup_call: rust_lookup,
@@ -154,6 +159,60 @@ fn with_card<const N: usize>(
 
 /// The card's bytes stay, whatever they are.
 unsafe extern "C" fn rust_card_reset(_: *mut CardBytes, record: *mut Record, reply: *mut BlockBytes) -> u32 {
+    reset(&mut *record, &mut *reply)
+}
+
+/// Four bytes that are no record stand for no card.
+unsafe extern "C" fn rust_open(image: *const u8, image_len: usize, card: *const CardBytes, figures: *mut FigureBytes) -> u32 {
+    let opened = to_card(&*card).ok_or(11).and_then(|card| figures::open(from_raw_parts(image, image_len), &card));
+    *figures = opened.unwrap_or(ZERO).bytes();
+    opened.err().unwrap_or(0).into()
+}
+
+unsafe extern "C" fn rust_kept_frame(
+    image: *mut u8,
+    image_len: usize,
+    card: *mut CardBytes,
+    figures: *mut FigureBytes,
+    record: *mut Record,
+    frame: *const u8,
+    frame_len: usize,
+    reply: *mut BlockBytes,
+) -> u32 {
+    let (image, frame) = (from_raw_parts_mut(image, image_len), from_raw_parts(frame, frame_len));
+    let send = |image: &mut [u8], card: &mut CardRecord, session: &mut Session, reply: &mut BlockBytes| {
+        with_figures(&mut *figures, |figures| figures::frame(image, card, figures, session, frame, reply))
+    };
+    with_card(image, &mut *card, &mut *record, &mut *reply, send)
+}
+
+unsafe extern "C" fn rust_kept_sealed_frame(
+    image: *mut u8,
+    image_len: usize,
+    card: *mut CardBytes,
+    figures: *mut FigureBytes,
+    record: *mut Record,
+    frame: *const u8,
+    frame_len: usize,
+    reply: *mut SealedReply,
+) -> u32 {
+    let (image, frame) = (from_raw_parts_mut(image, image_len), from_raw_parts(frame, frame_len));
+    let send = |image: &mut [u8], card: &mut CardRecord, session: &mut Session, reply: &mut SealedReply| {
+        with_figures(&mut *figures, |figures| figures::sealed_frame(image, card, figures, session, frame, reply))
+    };
+    with_card(image, &mut *card, &mut *record, &mut *reply, send)
+}
+
+#[inline(always)]
+fn with_figures(bytes: &mut FigureBytes, send: impl FnOnce(&mut Figures) -> Valued) -> Valued {
+    let mut figures = Figures::of(bytes);
+    let answer = send(&mut figures);
+    *bytes = figures.bytes();
+    answer
+}
+
+/// Both stay, whatever they are.
+unsafe extern "C" fn rust_kept_reset(_: *const CardBytes, _: *const FigureBytes, record: *mut Record, reply: *mut BlockBytes) -> u32 {
     reset(&mut *record, &mut *reply)
 }
 

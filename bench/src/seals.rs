@@ -3,6 +3,7 @@
 use crate::crc::seal_of;
 use crate::frames::{self, MORE};
 use crate::random::Random;
+use crate::reader::Sent;
 
 /// A bare frame with its checksum, in most a right one.
 pub fn any(random: &mut Random, frame: &[u8]) -> Vec<u8> {
@@ -73,4 +74,26 @@ fn is_right_before(sealed: &[u8], count: usize) -> bool {
 /// The bytes before the checksum, which the card judges where it is right.
 pub fn inner(sealed: &[u8]) -> &[u8] {
     &sealed[..sealed.len().saturating_sub(2)]
+}
+
+/// Some frames get longer, and so many of a hundred get a checksum.
+pub fn on_the_air(random: &mut Random, sealed_share: usize, sent: Sent) -> Sent {
+    let Sent::Frame(mut frame) = sent else { return sent };
+    if random.percent(4) {
+        frames::lengthen(random, &mut frame);
+    }
+    if random.percent(sealed_share) {
+        Sent::Sealed(any(random, &frame))
+    } else {
+        Sent::Frame(frame)
+    }
+}
+
+/// A frame without its checksum; none for a field reset.
+pub fn bare(sent: &Sent) -> Option<&[u8]> {
+    match sent {
+        Sent::Frame(frame) => Some(frame),
+        Sent::Sealed(frame) => Some(inner(frame)),
+        Sent::FieldReset => None,
+    }
 }

@@ -2,8 +2,9 @@
 
 use crate::calls::{Card, Printout, LIBRARY, RUST};
 use crate::card::SealedReply;
-use crate::cases::{self, Case, Desk, Issue, Lookup, Mending, Played};
+use crate::cases::{self, Case, Desk, Issue, Lookup, Mending, Opening, Played};
 use crate::edition::CardBytes;
+use crate::figures::FigureBytes;
 use crate::instructions;
 use crate::issuing::{GroupBits, Infos, Numbers, NUMBERS_BYTES};
 use crate::layout::BlockBytes;
@@ -16,6 +17,7 @@ use std::time::Instant;
 const ROUNDS: usize = 300;
 const CALLS_PER_ROUND: u32 = 4000;
 const PLAYS_PER_ROUND: u32 = 4;
+const OPENINGS_PER_ROUND: u32 = 200;
 /// Of five frames each, for a script of 1,000 events.
 pub const RIDES: usize = 200;
 /// Nanoseconds that a time may be off: a ratio of times this short says nothing.
@@ -30,6 +32,10 @@ const NOTHING: Card = Card {
     card_frame_call: no_card_frame,
     card_sealed_frame_call: no_card_sealed_frame,
     card_reset_call: no_card_reset,
+    open_call: no_open,
+    kept_frame_call: no_kept_frame,
+    kept_sealed_frame_call: no_kept_sealed_frame,
+    kept_reset_call: no_kept_reset,
     play_call: no_play,
     play_ev1_call: no_play,
     lookup_call: no_lookup,
@@ -69,6 +75,40 @@ unsafe extern "C" fn no_card_sealed_frame(
 }
 
 unsafe extern "C" fn no_card_reset(_: *mut CardBytes, _: *mut Record, _: *mut BlockBytes) -> u32 {
+    0
+}
+
+unsafe extern "C" fn no_open(_: *const u8, _: usize, _: *const CardBytes, _: *mut FigureBytes) -> u32 {
+    0
+}
+
+unsafe extern "C" fn no_kept_frame(
+    _: *mut u8,
+    _: usize,
+    _: *mut CardBytes,
+    _: *mut FigureBytes,
+    _: *mut Record,
+    _: *const u8,
+    _: usize,
+    _: *mut BlockBytes,
+) -> u32 {
+    0
+}
+
+unsafe extern "C" fn no_kept_sealed_frame(
+    _: *mut u8,
+    _: usize,
+    _: *mut CardBytes,
+    _: *mut FigureBytes,
+    _: *mut Record,
+    _: *const u8,
+    _: usize,
+    _: *mut SealedReply,
+) -> u32 {
+    0
+}
+
+unsafe extern "C" fn no_kept_reset(_: *const CardBytes, _: *const FigureBytes, _: *mut Record, _: *mut BlockBytes) -> u32 {
     0
 }
 
@@ -153,6 +193,14 @@ impl Work {
         Work { name: name.to_string(), times: CALLS_PER_ROUND, send: Box::new(send) }
     }
 
+    fn of_opening(Opening { name, image, card }: Opening) -> Work {
+        let mut figures = [0; 16];
+        let send = move |side: &Card| {
+            std::hint::black_box((side.open(&image, &card, &mut figures), &figures));
+        };
+        Work { name: name.to_string(), times: OPENINGS_PER_ROUND, send: Box::new(send) }
+    }
+
     pub fn repeat(&mut self, card: &Card, times: u32) {
         for _ in 0..times {
             (self.send)(std::hint::black_box(card));
@@ -178,7 +226,8 @@ pub fn works() -> Vec<Work> {
     let lookups = cases::lookups().into_iter().map(Work::of_lookup);
     let mendings = cases::mendings().into_iter().map(Work::of_mending);
     let issues = cases::issues().into_iter().map(Work::of_issue);
-    cases.chain(scripts).chain(lookups).chain(mendings).chain(issues).collect()
+    let openings = cases::openings().into_iter().map(Work::of_opening);
+    cases.chain(scripts).chain(lookups).chain(mendings).chain(issues).chain(openings).collect()
 }
 
 /// The shortest nanoseconds of the empty card, the library and the Rust card.
@@ -218,11 +267,16 @@ pub fn print_table() {
 }
 
 /// How the names of lines begin, and of which entry they are; the last takes the rest.
-const ENTRIES: [(&str, &str); 9] = [
+const ENTRIES: [(&str, &str); 14] = [
     ("sealed", "frames with their checksum"),
     ("lookup", "lookups"),
     ("mend", "mendings"),
     ("issue", "calls of the issuing desk"),
+    ("open", "openings"),
+    ("kept EV1 sealed", "frames with their checksum and figures on an EV1"),
+    ("kept EV1", "bare frames with figures on an EV1"),
+    ("kept old sealed", "frames with their checksum and figures on an old card"),
+    ("kept old", "bare frames with figures on an old card"),
     ("EV1 sealed", "frames with their checksum on an EV1"),
     ("EV1", "bare frames on an EV1"),
     ("old sealed", "frames with their checksum and an old card's record"),

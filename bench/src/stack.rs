@@ -2,10 +2,11 @@
 
 use crate::calls::{Card, LIBRARY, PRINTOUT_BYTES, RUST};
 use crate::card::SEALED_BYTES;
-use crate::cases::{self, Case, Desk, Issue, Lookup, Mending, Played};
+use crate::cases::{self, Case, Desk, Issue, Lookup, Mending, Opening, Played};
 use crate::issuing::NUMBERS_BYTES;
 use crate::mending::REPORT_BYTES;
 use crate::reader::Sent;
+use crate::side::Held;
 use crate::speed::RIDES;
 use std::arch::asm;
 
@@ -14,16 +15,18 @@ const STACK_BYTES: usize = 256 * 1024;
 #[repr(align(64))]
 struct Stack([u8; STACK_BYTES]);
 
-/// Calls a C function of at most seven whole numbers or pointers on the given stack. The seventh lies on it, and counts.
+/// Calls a C function of at most eight whole numbers or pointers on the given stack. The seventh and the eighth lie on it, and count.
 ///
 /// # Safety
 /// The arguments must be those that the function expects, and the stack deep enough.
 unsafe fn call_on(stack: &mut Stack, function: *const (), arguments: &[usize]) {
     let mut top = stack.0.as_mut_ptr().add(STACK_BYTES);
-    if let Some(seventh) = arguments.get(6) {
+    if arguments.len() > 6 {
         // The stack stays aligned to sixteen bytes.
         top = top.sub(16);
-        top.cast::<usize>().write(*seventh);
+        for (place, argument) in arguments[6..].iter().enumerate() {
+            top.cast::<usize>().add(place).write(*argument);
+        }
     }
     let argument = |place: usize| arguments.get(place).copied().unwrap_or(0);
     asm!(
@@ -56,15 +59,20 @@ fn depth(stack: &mut Stack, mut call: impl FnMut(&mut Stack)) -> usize {
 }
 
 fn of_case(stack: &mut Stack, card: &Card, case: &Case) -> Option<usize> {
-    let (record, start, sent) = case.only()?;
+    let (start, sent) = case.only()?;
     let mut image = case.image.clone();
     Some(depth(stack, |stack| {
-        let (mut record, mut session, mut reply) = (record, start, [0u8; SEALED_BYTES]);
-        let function = function_of(card, sent, record.is_some());
-        let mut arguments = vec![session.as_mut_ptr() as usize];
-        if let Some(record) = &mut record {
-            arguments.insert(0, record.as_mut_ptr() as usize);
-        }
+        let (mut held, mut reply) = (start, [0u8; SEALED_BYTES]);
+        let function = function_of(card, sent, &held);
+        let mut arguments: Vec<usize> = [
+            held.card.as_mut().map(|card| card.as_mut_ptr()),
+            held.figures.as_mut().map(|figures| figures.as_mut_ptr()),
+            Some(held.session.as_mut_ptr()),
+        ]
+        .into_iter()
+        .flatten()
+        .map(|pointer| pointer as usize)
+        .collect();
         if let Sent::Frame(frame) | Sent::Sealed(frame) = sent {
             arguments.splice(0..0, [image.as_mut_ptr() as usize, image.len()]);
             arguments.extend([frame.as_ptr() as usize, frame.len()]);
@@ -75,15 +83,28 @@ fn of_case(stack: &mut Stack, card: &Card, case: &Case) -> Option<usize> {
     }))
 }
 
-fn function_of(card: &Card, sent: &Sent, has_record: bool) -> *const () {
-    match (sent, has_record) {
-        (Sent::Frame(_), false) => card.frame_call as *const (),
-        (Sent::Sealed(_), false) => card.sealed_frame_call as *const (),
-        (Sent::FieldReset, false) => card.field_reset_call as *const (),
-        (Sent::Frame(_), true) => card.card_frame_call as *const (),
-        (Sent::Sealed(_), true) => card.card_sealed_frame_call as *const (),
-        (Sent::FieldReset, true) => card.card_reset_call as *const (),
+fn function_of(card: &Card, sent: &Sent, held: &Held) -> *const () {
+    match (sent, held.card, held.figures) {
+        (Sent::Frame(_), None, _) => card.frame_call as *const (),
+        (Sent::Sealed(_), None, _) => card.sealed_frame_call as *const (),
+        (Sent::FieldReset, None, _) => card.field_reset_call as *const (),
+        (Sent::Frame(_), Some(_), None) => card.card_frame_call as *const (),
+        (Sent::Sealed(_), Some(_), None) => card.card_sealed_frame_call as *const (),
+        (Sent::FieldReset, Some(_), None) => card.card_reset_call as *const (),
+        (Sent::Frame(_), Some(_), Some(_)) => card.kept_frame_call as *const (),
+        (Sent::Sealed(_), Some(_), Some(_)) => card.kept_sealed_frame_call as *const (),
+        (Sent::FieldReset, Some(_), Some(_)) => card.kept_reset_call as *const (),
     }
+}
+
+fn of_opening(stack: &mut Stack, card: &Card, opening: &Opening) -> usize {
+    let mut figures = [0u8; 16];
+    depth(stack, |stack| {
+        let (image, record) = (&opening.image, opening.card.as_ptr() as usize);
+        let arguments = [image.as_ptr() as usize, image.len(), record, figures.as_mut_ptr() as usize];
+        // SAFETY: as above.
+        unsafe { call_on(stack, card.open_call as *const (), &arguments) }
+    })
 }
 
 fn of_play(stack: &mut Stack, card: &Card, Played { edition, script, .. }: &Played) -> usize {
@@ -155,5 +176,9 @@ pub fn print_table() {
     for issue in cases::issues() {
         let (library, rust) = (of_issue(&mut stack, &LIBRARY, &issue), of_issue(&mut stack, &RUST, &issue));
         println!("{:36} {library:8} {rust:8}", issue.name);
+    }
+    for opening in cases::openings() {
+        let (library, rust) = (of_opening(&mut stack, &LIBRARY, &opening), of_opening(&mut stack, &RUST, &opening));
+        println!("{:36} {library:8} {rust:8}", opening.name);
     }
 }

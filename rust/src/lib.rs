@@ -1,7 +1,8 @@
 //! A MIFARE Classic card in software: safe calls of the proved library.
 //!
 //! The card keeps nothing. The caller owns the image, its [`Card`] record and one [`Session`], and lends them to each call.
-//! [`Session::card_frame`] takes a card of either edition; [`Session::frame`] is the short form for an old one.
+//! [`Session::card_frame`] takes a card of either edition; [`Session::frame`] is the short form for an old one. Who wants to know how many
+//! value blocks a card has and what they sum up to takes [`Figures`] from [`open`] and lends them to [`Session::kept_frame`] as well.
 //! `include/tirlwheel.h` says what each number means.
 #![no_std]
 
@@ -45,6 +46,38 @@ mod ffi {
         ) -> u32;
         pub fn tirlwheel_card_reset(
             card: *mut [u8; 4],
+            session: *mut [u8; 12],
+            reply: *mut [u8; 16],
+        ) -> u32;
+        pub fn tirlwheel_open(
+            image: *const u8,
+            image_len: usize,
+            card: *const [u8; 4],
+            figures: *mut [u8; 16],
+        ) -> u32;
+        pub fn tirlwheel_kept_frame(
+            image: *mut u8,
+            image_len: usize,
+            card: *mut [u8; 4],
+            figures: *mut [u8; 16],
+            session: *mut [u8; 12],
+            frame: *const u8,
+            frame_len: usize,
+            reply: *mut [u8; 16],
+        ) -> u32;
+        pub fn tirlwheel_kept_sealed_frame(
+            image: *mut u8,
+            image_len: usize,
+            card: *mut [u8; 4],
+            figures: *mut [u8; 16],
+            session: *mut [u8; 12],
+            frame: *const u8,
+            frame_len: usize,
+            reply: *mut [u8; 18],
+        ) -> u32;
+        pub fn tirlwheel_kept_reset(
+            card: *const [u8; 4],
+            figures: *const [u8; 16],
             session: *mut [u8; 12],
             reply: *mut [u8; 16],
         ) -> u32;
@@ -100,8 +133,10 @@ mod ffi {
 pub struct Session(pub [u8; 12]);
 
 mod card;
+mod figures;
 mod issue;
 pub use card::{Card, Choice, Edition, Nak, Usage};
+pub use figures::{open, open_bytes, Figures};
 pub use issue::{read_access, read_directory, write_access, write_directory, Directory};
 
 /// What went on the air.

@@ -35,9 +35,9 @@ numberOf (Loaded v a) = 0
 numberOf (Moved b v a) = 0
 numberOf Halted = 0
 
--- 11, 12, 1 and 4 put nothing on the air, every other refusal NAK
+-- 11, 12, 29, 1 and 4 put nothing on the air, every other refusal NAK
 unfoldable pub refusedSign : ℕ → Sign
-refusedSign n = cond (eqb n 11 || eqb n 12 || eqb n 1 || eqb n 4) Nothing Nak
+refusedSign n = cond (eqb n 11 || eqb n 12 || eqb n 29 || eqb n 1 || eqb n 4) Nothing Nak
 
 unfoldable pub signOf : Act → Sign
 signOf (Refused n) = refusedSign n

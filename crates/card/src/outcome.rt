@@ -21,7 +21,7 @@ use session::Stage;
 fn refused_sign(n: u8) -> Sign
     ensures { λ r. ⌜ r ≡ refusedSign n ⌝ }
 {
-    if (n == 11) | (n == 12) | (n == 1) | (n == 4) {
+    if (n == 11) | (n == 12) | (n == 29) | (n == 1) | (n == 4) {
         return Sign::Nothing;
     }
     Sign::Nak

@@ -51,7 +51,7 @@ use Rattle.runs.specs.Run.{State, Sent, reset, bare, sealed, answerTo, imageUpo
 use Rattle.demands.specs.Demand1.{Wanted, shared, personalize, Row, row, anyFrame, noUsage, isLocked, noCardFor, commandRows, table, wantedOf, asked, Met, here, below, owedFor, Demand1}
 
 -- the act that a table of rows leaves of a command
-abbrev rule : Wanted → List Row → Act → Act
+abbrev pub rule : Wanted → List Row → Act → Act
 rule c [] act = act
 rule c (r ∷ rows) act = cond (r .applies c) (Refused (r .number)) (rule c rows act)
 
@@ -67,11 +67,11 @@ by-rows c (check n true ∷ cs) act = refl
 by-rows c (check n false ∷ cs) act = by-rows c cs act
 
 -- a row that is met decides, and without one the number is that of the act
-met-rule : (r : Row) (c : Wanted) (rows : List Row) (act : Act) → Met r c rows → rule c rows act ≡ Refused (r .number)
+pub met-rule : (r : Row) (c : Wanted) (rows : List Row) (act : Act) → Met r c rows → rule c rows act ≡ Refused (r .number)
 met-rule r c rows act (here rest e) = rw e
 met-rule r c rows act (below above rest e m) = rw e (met-rule r c rest act m)
 
-none-else : (c : Wanted) (rows : List Row) (act : Act) → numberOf act ≡ 0 → (numberOf (rule c rows act) ≡ 0 → ⊥) → (r : Row) × Met r c rows × (numberOf (rule c rows act) ≡ r .number)
+pub none-else : (c : Wanted) (rows : List Row) (act : Act) → numberOf act ≡ 0 → (numberOf (rule c rows act) ≡ 0 → ⊥) → (r : Row) × Met r c rows × (numberOf (rule c rows act) ≡ r .number)
 unfolding numberOf
 none-else c [] act z h = absurd (h z)
 none-else c (q ∷ rows) act z h = go (q .applies c) refl h (none-else c rows act z)
@@ -83,11 +83,11 @@ none-else c (q ∷ rows) act z h = go (q .applies c) refl h (none-else c rows ac
     go false e k f = let m = f k in (m .0, below q rows e (m .1), m .2)
 
 -- the signs of a table are the card's, and no number is 0
-abbrev Signed : List Row → Type 0
+abbrev pub Signed : List Row → Type 0
 Signed [] = Unit {0}
 Signed (r ∷ rows) = (refusedSign (r .number) ≡ r .air) × (eqb (r .number) 0 ≡ false) × Signed rows
 
-met-sign : (r : Row) (c : Wanted) (rows : List Row) → Signed rows → Met r c rows → (refusedSign (r .number) ≡ r .air) × (eqb (r .number) 0 ≡ false)
+pub met-sign : (r : Row) (c : Wanted) (rows : List Row) → Signed rows → Met r c rows → (refusedSign (r .number) ≡ r .air) × (eqb (r .number) 0 ≡ false)
 met-sign r c rows p (here rest e) = (p .0, p .1)
 met-sign r c rows p (below above rest e m) = met-sign r c rest (p .2) m
 
@@ -229,7 +229,7 @@ sealed-rows false false false true p = refl
 sealed-rows false false false false p = refl
 
 -- the act of what is sent, by the table
-by-table : (st : State) (e : Sent) → (act : Act) × (numberOf act ≡ 0) × (actOf st e ≡ rule (asked st e) (table st e) act)
+pub by-table : (st : State) (e : Sent) → (act : Act) × (numberOf act ≡ 0) × (actOf st e ≡ rule (asked st e) (table st e) act)
 unfolding actOf numberOf sealedCardActOf frameChecks
 by-table st reset = (Halted, refl, refl)
 by-table st (bare frame) = card-table (st .card) (st .image) (st .session) frame
@@ -251,7 +251,7 @@ refused-as st reset n z a = let q : _≡_ {A = ℕ} 0 1 = cc in absurd (omega ar
 refused-as st (bare frame) n z a = rw (a, refusal-given (st .image) (st .card) (st .session) frame n z) (refl, refl)
 refused-as st (sealed frame) n z a = rw (a, refusal-given (st .image) (st .card) (st .session) (innerOf frame) n z, refused-none n zeros) (refl, refl)
 
-same-number : (t : Bool) (a : Answer) → cond t (acknowledged a) a .number ≡ a .number
+pub same-number : (t : Bool) (a : Answer) → cond t (acknowledged a) a .number ≡ a .number
 unfolding acknowledged
 same-number true a = refl
 same-number false a = refl

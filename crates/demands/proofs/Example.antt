@@ -19,9 +19,13 @@ use Rattle.sealed.specs.Sealed.{innerOf, sealIn, unsealed, sealedReply, sealedO
 use Rattle.edition.specs.Edition.{usageOf}
 use Rattle.either.specs.Personal.{isPersonal, choosing, acknowledged}
 use Rattle.either.specs.Either.{cardActOf, sealedCardActOf, givenFor, cardAnswerOf, cardImageAfter, sealedCardOf, sealedCardAnswerOf, sealedCardImageAfter}
+use Rattle.tally.specs.Change.{inRange, countBy, sumBy, keptOf, settledOf}
+use Rattle.tally.specs.Full.{counts, shareAt, totalTo, openedOf}
+use Rattle.kept.specs.Kept.{settledAt, settledBy, keptChecks, keptActOf, keptFor, keptAnswerOf, keptImageAfter, sealedKeptOf, sealedKeptAnswerOf, sealedKeptImageAfter}
 use Rattle.runs.specs.Run.{answerTo, imageUpon, after, runOf, answersOf, actOf}
 use Rattle.runs.specs.Watch.{noted, always}
-use Rattle.demands.specs.Example.{purseCard, purseEvents, PurseRun, largeCard, largeEvents, LargeRun, rideCard, rideEvents, RideRun, ev1RideCard, ev1RideEvents, Ev1RideRun}
+use Rattle.runs.specs.Kept.{keptAnswerTo, figuresUpon, keptImageUpon, keptAfter, keptRunOf, keptAnswersOf}
+use Rattle.demands.specs.Example.{purseCard, purseEvents, PurseRun, largeCard, largeEvents, LargeRun, rideCard, rideEvents, RideRun, ev1RideCard, ev1RideEvents, Ev1RideRun, figuresAlong, totalCard, totalEvents, TotalRun, fullEvents, FullRun}
 
 pub purse-run : PurseRun
 unfolding sectorsOf blocksIn blocksOf hasSector hasBlock sectorOf trailerOf isTrailer groupAt groupOf sixteenOf contentOf storeOf accessBytesOf wellFormed bitOf groupBits bitsOf dataTable trailerTable dataRow trailerRow allowsOf keysFor mayOf writableOf readableOf muteOf encodeOf decodeOf agreeing totalOf isNegative ruledOf coherentOf inSector byteIn eightBytesOf twoBytesOf firstOf commandOf first ruled noCard incoherent noBlock otherSector isBlocked isKey wrongKey isForbidden trailerRight rightOf hasRight noRight noValue kindColumn memoryChecks checksOf authenticateChecks frameChecks writableBy totalFor loadOf appliedOf moveOf shownOf storedOf doneOf commandedOf judgeOf numberOf refusedSign signOf replyOf sessionOf imageOf answered shifted shifts byteOn bytesOn crcOf twoOf innerOf sealIn unsealed sealedReply sealedOf usageOf isPersonal choosing acknowledged cardActOf sealedCardActOf givenFor cardAnswerOf cardImageAfter sealedCardOf sealedCardAnswerOf sealedCardImageAfter answerTo imageUpon after runOf answersOf actOf noted always purseCard purseEvents
@@ -40,3 +44,11 @@ pub ev1-ride-run : Ev1RideRun
 unfolding sectorsOf blocksIn blocksOf hasSector hasBlock sectorOf trailerOf isTrailer groupAt groupOf sixteenOf contentOf storeOf accessBytesOf wellFormed bitOf groupBits bitsOf dataTable trailerTable dataRow trailerRow allowsOf keysFor mayOf writableOf readableOf muteOf encodeOf decodeOf agreeing totalOf isNegative ruledOf coherentOf inSector byteIn eightBytesOf twoBytesOf firstOf commandOf first ruled noCard incoherent noBlock otherSector isBlocked isKey wrongKey isForbidden trailerRight rightOf hasRight noRight noValue kindColumn memoryChecks checksOf authenticateChecks frameChecks writableBy totalFor loadOf appliedOf moveOf shownOf storedOf doneOf commandedOf judgeOf numberOf refusedSign signOf replyOf sessionOf imageOf answered shifted shifts byteOn bytesOn crcOf twoOf innerOf sealIn unsealed sealedReply sealedOf usageOf isPersonal choosing acknowledged cardActOf sealedCardActOf givenFor cardAnswerOf cardImageAfter sealedCardOf sealedCardAnswerOf sealedCardImageAfter answerTo imageUpon after runOf answersOf actOf noted always ev1RideCard ev1RideEvents
 ev1-ride-run =
     record { rides = record { opened = refl; first = refl; second = refl; third = refl }; unwritten = refl; answered = refl; values = refl; chosen = refl; largest = refl; risen = refl }
+
+pub total-run : TotalRun
+unfolding sectorsOf blocksIn blocksOf hasSector hasBlock sectorOf trailerOf isTrailer groupAt groupOf sixteenOf contentOf storeOf accessBytesOf wellFormed bitOf groupBits bitsOf dataTable trailerTable dataRow trailerRow allowsOf keysFor mayOf writableOf readableOf muteOf encodeOf decodeOf agreeing totalOf isNegative ruledOf coherentOf inSector byteIn eightBytesOf twoBytesOf firstOf commandOf first ruled noCard incoherent noBlock otherSector isBlocked isKey wrongKey isForbidden trailerRight rightOf hasRight noRight noValue kindColumn memoryChecks checksOf authenticateChecks frameChecks writableBy totalFor loadOf appliedOf moveOf shownOf storedOf doneOf commandedOf judgeOf numberOf refusedSign signOf replyOf sessionOf imageOf answered shifted shifts byteOn bytesOn crcOf twoOf innerOf sealIn unsealed sealedReply sealedOf usageOf isPersonal choosing acknowledged cardActOf sealedCardActOf givenFor cardAnswerOf cardImageAfter sealedCardOf sealedCardAnswerOf sealedCardImageAfter answerTo imageUpon after runOf answersOf actOf inRange countBy sumBy keptOf settledOf counts shareAt totalTo openedOf settledAt settledBy keptChecks keptActOf keptFor keptAnswerOf keptImageAfter sealedKeptOf sealedKeptAnswerOf sealedKeptImageAfter keptAnswerTo figuresUpon keptImageUpon keptAfter keptRunOf keptAnswersOf figuresAlong totalCard totalEvents
+total-run = record { opened = refl; run = record { answered = refl; counted = refl; summed = refl }; anew = refl }
+
+pub full-run : FullRun
+unfolding sectorsOf blocksIn blocksOf hasSector hasBlock sectorOf trailerOf isTrailer groupAt groupOf sixteenOf contentOf storeOf accessBytesOf wellFormed bitOf groupBits bitsOf dataTable trailerTable dataRow trailerRow allowsOf keysFor mayOf writableOf readableOf muteOf encodeOf decodeOf agreeing totalOf isNegative ruledOf coherentOf inSector byteIn eightBytesOf twoBytesOf firstOf commandOf first ruled noCard incoherent noBlock otherSector isBlocked isKey wrongKey isForbidden trailerRight rightOf hasRight noRight noValue kindColumn memoryChecks checksOf authenticateChecks frameChecks writableBy totalFor loadOf appliedOf moveOf shownOf storedOf doneOf commandedOf judgeOf numberOf refusedSign signOf replyOf sessionOf imageOf answered shifted shifts byteOn bytesOn crcOf twoOf innerOf sealIn unsealed sealedReply sealedOf usageOf isPersonal choosing acknowledged cardActOf sealedCardActOf givenFor cardAnswerOf cardImageAfter sealedCardOf sealedCardAnswerOf sealedCardImageAfter answerTo imageUpon after runOf answersOf actOf inRange countBy sumBy keptOf settledOf counts shareAt totalTo openedOf settledAt settledBy keptChecks keptActOf keptFor keptAnswerOf keptImageAfter sealedKeptOf sealedKeptAnswerOf sealedKeptImageAfter keptAnswerTo figuresUpon keptImageUpon keptAfter keptRunOf keptAnswersOf figuresAlong totalCard fullEvents
+full-run = record { answered = refl; counted = refl; summed = refl }

@@ -4,6 +4,8 @@ pub mod Demand2
 pub mod Demand3
 pub mod Order
 pub mod OneWay
+pub mod Figures
+pub mod KeptTable
 pub mod Example
 pub mod Exact
 pub mod OneLayout
@@ -29,6 +31,8 @@ pub mod OneDirectory
 pub mod OneMend
 pub mod OneTally
 pub mod OneIssue
+pub mod OneKept
+pub mod OneKeptEdge
 pub mod OneDesk
 pub mod Boundary
 pub mod CardBoundary

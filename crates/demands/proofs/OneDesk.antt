@@ -11,6 +11,7 @@ use Rattle.desk.proofs.tirlwheel_write_directory.Reads as write-directory-contr
 use Rattle.desk.proofs.tirlwheel_read_directory.Reads as read-directory-contract
 use Rattle.desk.proofs.tirlwheel_write_access.Reads as write-access-contract
 use Rattle.desk.proofs.tirlwheel_read_access.Reads as read-access-contract
+use Rattle.desk.proofs.tirlwheel_open.Reads as open-contract
 use Rattle.demands.specs.One.{OneResult}
 use Rattle.demands.proofs.Exact.{exact}
 
@@ -57,3 +58,11 @@ module _ (κ₀ κ₁ : Lft) (image : RefT (List ℕ)) (sector : ℕ) (bits : Re
 
   pub tirlwheel-read-access : (r r′ : ℕ) (told told′ : List ℕ) → BitsMeet r told → BitsMeet r′ told′ → (r ≡ r′) × (told ≡ told′)
   tirlwheel-read-access r r′ told told′ m n = (m .0 ∙ sym (n .0), m .1 ∙ sym (n .1))
+
+module _ (κ₀ κ₁ κ₂ : Lft) (image card figures : RefT (List ℕ)) where
+  -- the number, and the figures afterwards
+  abbrev OpenMeets : ℕ → List ℕ → Type 0
+  OpenMeets r told = open-contract.Post (κ₀, (κ₁, (κ₂, tt))) (image, (card, (figures, tt))) r (image, (card, (at-last figures told, tt)))
+
+  pub tirlwheel-open : (r r′ : ℕ) (told told′ : List ℕ) → OpenMeets r told → OpenMeets r′ told′ → (r ≡ r′) × (told ≡ told′)
+  tirlwheel-open r r′ told told′ m n = (m .0 ∙ sym (n .0), m .1 ∙ sym (n .1))

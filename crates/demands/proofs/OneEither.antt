@@ -12,9 +12,11 @@ use Rattle.either.specs.declared.CardAnswer.{CardAnswer}
 use Rattle.either.specs.declared.sealing.SealedCardAnswer.{SealedCardAnswer}
 use Rattle.either.proofs.judge.Reads as judge-contract
 use Rattle.either.proofs.enact.Reads as enact-contract
+use Rattle.either.proofs.refusal.Reads as refusal-contract
 use Rattle.either.proofs.step.Reads as step-contract
 use Rattle.either.proofs.field_reset.Reads as field-reset-contract
 use Rattle.either.proofs.no_session.Reads as no-session-contract
+use Rattle.either.proofs.sealed_card.Reads as sealed-card-contract
 use Rattle.either.proofs.sealed_step.Reads as sealed-step-contract
 use Rattle.either.proofs.sealed_no_session.Reads as sealed-no-session-contract
 use Rattle.demands.specs.One.{OneResult}
@@ -44,6 +46,12 @@ module _ (κ κ′ : Lft) (image : RefT (List ℕ)) (k : CardRecord) (s : Sessio
 
   pub sealed-step : (r r′ : SealedCardAnswer) (last last′ : List ℕ) → SealedMeets r last → SealedMeets r′ last′ → (r ≡ r′) × (last ≡ last′)
   sealed-step r r′ last last′ p q = (p .0 ∙ sym (q .0), p .1 ∙ sym (q .1))
+
+pub refusal : (k : CardRecord) (s : Session) (n : ℕ) → OneResult (λ r. refusal-contract.Post tt (k, (s, (n, tt))) r (k, (s, (n, tt))))
+refusal k s n = exact
+
+pub sealed-card : (a : CardAnswer) → OneResult (λ r. sealed-card-contract.Post tt (a, tt) r (a, tt))
+sealed-card a = exact
 
 pub field-reset : (k : CardRecord) → OneResult (λ r. field-reset-contract.Post tt (k, tt) r (k, tt))
 field-reset k = exact

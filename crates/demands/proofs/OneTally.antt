@@ -8,6 +8,8 @@ use Rattle.tally.specs.declared.change.Figures.{Figures}
 use Rattle.tally.proofs.in_range.Reads as in-range-contract
 use Rattle.tally.proofs.after.Reads as after-contract
 use Rattle.tally.proofs.open.Reads as open-contract
+use Rattle.tally.proofs.decode.Reads as decode-contract
+use Rattle.tally.proofs.encode.Reads as encode-contract
 use Rattle.demands.specs.One.{OneResult}
 use Rattle.demands.proofs.Exact.{exact}
 
@@ -19,3 +21,9 @@ after f old new = exact
 
 pub opening : (κ : Lft) (image : RefT (List ℕ)) → OneResult (λ r. open-contract.Post (κ, tt) (image, tt) r (image, tt))
 opening κ image = exact
+
+pub decode : (bytes : List ℕ) → OneResult (λ r. decode-contract.Post tt (bytes, tt) r (bytes, tt))
+decode bytes = exact
+
+pub encode : (f : Figures) → OneResult (λ r. encode-contract.Post tt (f, tt) r (f, tt))
+encode f = exact

@@ -1,5 +1,6 @@
 -- Runs that meet the premises, with the numbers of their answers. Of demand 3: a load transferred twice, one refused for its range, a wrong checksum, another block written, a second load; and on a
--- 4K card a Restore, a field reset and a Halt. Of a ride card: a decrement of -50 refused and the Transfer after it too, and a load transferred into another block.
+-- 4K card a Restore, a field reset and a Halt. Of a ride card: a decrement of -50 refused and the Transfer after it too, and a load transferred into another block. Of the total: a value block
+-- written over, a value moved, a wrong checksum, and figures at the end of their range.
 use mathlib.Core.Path.{_≡_}
 use mathlib.Core.List.{List, [], _∷_, _++_, map}
 use Prim.Native.Nat.{ℕ, zero, suc}
@@ -17,9 +18,14 @@ use Rattle.edition.specs.declared.Usage.the-variants.{Shortened}
 use Rattle.edition.specs.declared.Choice.the-variants.{Open, Locked}
 use Rattle.edition.specs.declared.CardRecord.{CardRecord}
 use Rattle.either.specs.declared.CardAnswer.{CardAnswer}
+use Rattle.tally.specs.Whole.{whole}
+use Rattle.tally.specs.Change.{figuresOf}
+use Rattle.tally.specs.Full.{openedOf}
+use Rattle.tally.specs.declared.change.Figures.{Figures}
 use Rattle.checksum.specs.Checksum.{crcOf, twoOf}
 use Rattle.runs.specs.Run.{begin, Sent, reset, bare, sealed, runOf, answersOf}
 use Rattle.runs.specs.Watch.{noted}
+use Rattle.runs.specs.Kept.{KeptState, opening, figuresUpon, keptAfter, keptRunOf, keptAnswersOf}
 use Rattle.demands.specs.Demand3.{NotWritten, OwnTransfers, opened, booked}
 use Rattle.demands.specs.OneWay.{RideSector}
 
@@ -179,3 +185,66 @@ pub record Ev1RideRun : Type 0 where
   pub chosen : runOf (begin ev1Card ev1RideCard) ev1RideEvents .card ≡ record { edition = Ev1; choice = Locked Shortened }
   pub largest : decodeOf (contentOf (runOf (begin ev1Card ev1RideCard) ev1RideEvents .image) (blockAt 4)) ≡ Value 50 4
   pub risen : decodeOf (contentOf (runOf (begin ev1Card ev1RideCard) ev1RideEvents .image) (blockAt 5)) ≡ Value 49 4
+
+-- the figures after each event of a run
+unfoldable pub figuresAlong : KeptState → List Sent → List Figures
+figuresAlong st [] = []
+figuresAlong st (e ∷ es) = figuresUpon st e ∷ figuresAlong (keptAfter st e) es
+
+-- a 1K card with 100 in block 4 and -30 in block 5
+unfoldable pub totalCard : List ℕ
+totalCard = blankSectors 1 ++ ((encodeOf (pos 100) 4 ++ (encodeOf (negsuc 29) 5 ++ (replicate 16 0 ++ transport))) ++ blankSectors 14)
+
+unfoldable pub totalEvents : List Sent
+totalEvents =
+    -- block 4 is written over by what is no value block
+    withChecksum (login 4)
+    ∷ bare (0xA0 ∷ 4 ∷ [])
+    ∷ withChecksum (replicate 16 0x11)
+    -- a Restore of block 5, transferred into block 6
+    ∷ bare (0xC2 ∷ 5 ∷ [])
+    ∷ withChecksum (0 ∷ 0 ∷ 0 ∷ 0 ∷ [])
+    ∷ bare (0xB0 ∷ 6 ∷ [])
+    -- a wrong checksum; then block 5 less 5, and a field reset
+    ∷ sealed (0x30 ∷ 4 ∷ 0 ∷ 0 ∷ [])
+    ∷ bare (login 4)
+    ∷ bare (0xC0 ∷ 5 ∷ [])
+    ∷ bare (5 ∷ 0 ∷ 0 ∷ 0 ∷ [])
+    ∷ withChecksum (0xB0 ∷ 5 ∷ [])
+    ∷ reset
+    ∷ []
+
+-- what is answered, and count and sum after each event (`negsuc n` is -n - 1)
+pub record FiguresRun (st : KeptState) (events : List Sent) (numbers : List ℕ) (counts sums : List ℤ) : Type 0 where
+  pub answered : map (λ (x : CardAnswer). x .answer .number) (keptAnswersOf st events) ≡ numbers
+  pub counted : map (λ (f : Figures). whole (f .count)) (figuresAlong st events) ≡ counts
+  pub summed : map (λ (f : Figures). whole (f .sum)) (figuresAlong st events) ≡ sums
+
+pub record TotalRun : Type 0 where
+  pub opened : openedOf totalCard ≡ record { number = 0; figures = figuresOf (pos 2) (pos 70) }
+  pub run :
+      FiguresRun (opening oldCard totalCard) totalEvents (0 ∷ 0 ∷ 0 ∷ 0 ∷ 0 ∷ 0 ∷ 14 ∷ 0 ∷ 0 ∷ 0 ∷ 0 ∷ 0 ∷ [])
+      (pos 2 ∷ pos 2 ∷ pos 1 ∷ pos 1 ∷ pos 1 ∷ pos 2 ∷ pos 2 ∷ pos 2 ∷ pos 2 ∷ pos 2 ∷ pos 2 ∷ pos 2 ∷ [])
+      (pos 70 ∷ pos 70 ∷ negsuc 29 ∷ negsuc 29 ∷ negsuc 29 ∷ negsuc 59 ∷ negsuc 59 ∷ negsuc 59 ∷ negsuc 59 ∷ negsuc 59 ∷ negsuc 64 ∷ negsuc 64 ∷ [])
+  pub anew : openedOf (keptRunOf (opening oldCard totalCard) totalEvents .state .image) ≡ record { number = 0; figures = figuresOf (pos 2) (negsuc 64) }
+
+-- the same card with a count of 255, which no opening gives
+abbrev pub countedFull : KeptState
+countedFull = record { state = begin oldCard totalCard; figures = figuresOf (pos 255) (pos 0) }
+
+unfoldable pub fullEvents : List Sent
+fullEvents =
+    -- one value block more is refused
+    bare (login 4)
+    ∷ bare (0xA0 ∷ 6 ∷ [])
+    ∷ withChecksum (encodeOf (pos 7) 6)
+    -- one in the place of another is not
+    ∷ bare (login 4)
+    ∷ withChecksum (0xA0 ∷ 4 ∷ [])
+    ∷ bare (encodeOf (pos 7) 4)
+    ∷ []
+
+abbrev pub FullRun : Type 0
+FullRun =
+    FiguresRun countedFull fullEvents (0 ∷ 0 ∷ 29 ∷ 0 ∷ 0 ∷ 0 ∷ []) (pos 255 ∷ pos 255 ∷ pos 255 ∷ pos 255 ∷ pos 255 ∷ pos 255 ∷ [])
+    (pos 0 ∷ pos 0 ∷ pos 0 ∷ pos 0 ∷ pos 0 ∷ negsuc 92 ∷ [])

@@ -4,6 +4,7 @@ pub mod Demand1
 pub mod Demand2
 pub mod Demand3
 pub mod OneWay
+pub mod Figures
 pub mod Example
 pub mod Boundary
 pub mod CardBoundary

@@ -8,11 +8,13 @@ ghost use Rattle.desk.specs.Desk.{flagOf, sectorIn, packedLookup};
 use directory::Found;
 
 mod issuing;
+mod opening;
 
 pub use issuing::tirlwheel_read_access;
 pub use issuing::tirlwheel_read_directory;
 pub use issuing::tirlwheel_write_access;
 pub use issuing::tirlwheel_write_directory;
+pub use opening::tirlwheel_open;
 
 fn wide(b: u8) -> u32
     ensures { λ r. ⌜ (r ≡ b) × (r < 256) ⌝ }

@@ -136,7 +136,7 @@ module _ (image : List ℕ) (k : CardRecord) (s : Session) (frame : List ℕ) wh
   refusal-given n z = rw z (go (personal k s frame))
     where
       t : Bool
-      t = eqb n 11 || eqb n 12 || eqb n 1 || eqb n 4
+      t = eqb n 11 || eqb n 12 || eqb n 29 || eqb n 1 || eqb n 4
 
       go : (p : Bool)
           → record {

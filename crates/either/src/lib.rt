@@ -2,6 +2,7 @@
 ghost use mathlib.Core.Path.{_≡_};
 ghost use Rattle.judge.specs.Code.{shortened};
 ghost use Rattle.card.specs.Effects.{imageOf};
+ghost use Rattle.card.specs.Step.{refusalOf};
 ghost use Rattle.either.specs.Either.{cardActOf, givenFor, cardAnswerOf, cardImageAfter, cardResetOf, cardNoSessionOf};
 ghost use Rattle.either.specs.Code.{givenOf};
 
@@ -13,6 +14,7 @@ use card::Answer;
 use edition::CardRecord;
 use judge::Act;
 pub use sealing::SealedCardAnswer;
+pub use sealing::sealed_card;
 pub use sealing::sealed_no_session;
 pub use sealing::sealed_step;
 use session::Register;
@@ -38,6 +40,14 @@ fn given(k: CardRecord, register: Register, a: Answer) -> CardAnswer
         nak: value,
         card: k,
     }
+}
+
+// A refusal: the value of its NAK goes by the register that was handed in.
+pub fn refusal(k: CardRecord, s: Session, n: u8) -> CardAnswer
+    ensures { λ r. ⌜ r ≡ givenOf k (s .register) (refusalOf n) ⌝ }
+{
+    let register = s.register;
+    given(k, register, card::refusal(n))
 }
 
 // What a frame does to a card with this record.

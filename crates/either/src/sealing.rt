@@ -8,8 +8,8 @@ ghost use Rattle.judge.specs.Checks.{frameChecks};
 ghost use Rattle.edition.specs.Edition.{wrongSize};
 ghost use Rattle.either.specs.Either.{sealedCardOf, sealedCardAnswerOf, sealedCardImageAfter, cardNoSessionOf};
 use crate::CardAnswer;
-use crate::given;
 use crate::no_session;
+use crate::refusal;
 use crate::step;
 use edition::CardRecord;
 use sealed::SealedAnswer;
@@ -22,7 +22,7 @@ pub struct SealedCardAnswer {
     pub card: CardRecord,
 }
 
-fn sealed_card(a: CardAnswer) -> SealedCardAnswer
+pub fn sealed_card(a: CardAnswer) -> SealedCardAnswer
     ensures { λ r. ⌜ r ≡ sealedCardOf a ⌝ }
 {
     let bare = a.answer;
@@ -48,12 +48,11 @@ pub fn sealed_step(image: &mut [u8], k: CardRecord, s: Session, frame: &[u8]) ->
     ensures { λ r. ⌜ r ≡ sealedCardAnswerOf (now (image .entry)) k s (now (frame .entry)) ⌝ }
     ensures { λ _. ⌜ now (image .exit) ≡ sealedCardImageAfter (now (image .entry)) k s (now (frame .entry)) ⌝ }
 {
-    let register = s.register;
     let a = if sealed::is_sealed(frame) {
         let end = frame.len() - 2;
         step(image, k, s, &frame[..end])
     } else {
-        given(k, register, card::refusal(first_refusal(k, &image[..], s)))
+        refusal(k, s, first_refusal(k, &image[..], s))
     };
     sealed_card(a)
 }

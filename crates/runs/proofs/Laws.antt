@@ -14,7 +14,7 @@ use Rattle.either.specs.declared.CardAnswer.{CardAnswer}
 use Rattle.runs.specs.Run.{State, Sent, reset, bare, sealed, answerTo, imageUpon, after, runOf, answersOf, frameIn, actOf, acted}
 
 -- a 40h leaves the session that its act leaves
-same-session : (t : Bool) (a : Answer) → cond t (acknowledged a) a .session ≡ a .session
+pub same-session : (t : Bool) (a : Answer) → cond t (acknowledged a) a .session ≡ a .session
 unfolding acknowledged
 same-session true a = refl
 same-session false a = refl

@@ -91,7 +91,7 @@ isRead Halted = false
 -- no refusal has a reply
 pub refused-none : (n : ℕ) (reply : List ℕ) → sealedReply (refusedSign n) reply ≡ replicate 18 0
 unfolding sealedReply refusedSign
-refused-none n reply = go (eqb n 11 || eqb n 12 || eqb n 1 || eqb n 4)
+refused-none n reply = go (eqb n 11 || eqb n 12 || eqb n 29 || eqb n 1 || eqb n 4)
   where
     go : (t : Bool) → sealedReply (cond t Nothing Nak) reply ≡ replicate 18 0
     go true = refl

@@ -2,3 +2,4 @@ pub mod Whole
 pub mod Change
 pub mod Full
 pub mod Laws
+pub mod Bytes

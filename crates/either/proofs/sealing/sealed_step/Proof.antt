@@ -12,8 +12,7 @@ use Rattle.either.proofs.sealing.sealed_step.Statement.{statement}
 use Rattle.either.proofs.sealing.sealed_step.Tie as tie
 use Rattle.either.proofs.sealing.sealed_step.Reads as reads
 use Rattle.either.proofs.sealing.sealed_step.Lts as lts
-use Rattle.card.proofs.refusal.Reads as refusal-reads
-use Rattle.either.proofs.given.Reads as given-reads
+use Rattle.either.proofs.refusal.Reads as refusal-reads
 use Rattle.either.proofs.sealing.first_refusal.Reads as first-refusal-reads
 use Rattle.either.proofs.sealing.sealed_card.Reads as sealed-card-reads
 use Rattle.either.proofs.step.Reads as step-reads
@@ -37,9 +36,6 @@ first-refusal-requires c κs = search needs
 refusal-requires : tie.Need-refusal-requires
 refusal-requires c κs = search needs
 
-given-requires : tie.Need-given-requires
-given-requires c κs = search needs
-
 sealed-card-requires : tie.Need-sealed-card-requires
 sealed-card-requires c κs = search needs
 
@@ -59,7 +55,7 @@ returns c =
     let told : (met .a ≡ givenFor image k s (innerOf frame) (sealedCardActOf image k s frame)) × (met .image ≡ sealedCardImageAfter image k s frame) =
     ⊎-elim
     (λ w. let law = with-seal image k s frame _ asked (w .0 .taken) in (w .7 ∙ w .3 .ensures .0 ∙ law .0, w .6 ∙ w .3 .ensures .1 ∙ law .1))
-    (λ w. let law = without-seal image k s frame _ asked _ (w .0 .left) (w .2 .ensures) in (w .6 ∙ w .4 .ensures ∙ rw (w .3 .ensures) (law .0), w .5 ∙ law .1))
+    (λ w. let law = without-seal image k s frame _ asked _ (w .0 .left) (w .2 .ensures) in (w .5 ∙ w .3 .ensures ∙ law .0, w .4 ∙ law .1))
     (met .came) in
     (c .sealed-card .ensures ∙ ap sealedCardOf (told .0), told .1)
 
@@ -73,7 +69,6 @@ sealed-step-spec =
     step-requires
     first-refusal-requires
     refusal-requires
-    given-requires
     sealed-card-requires
     same-length
     returns)
