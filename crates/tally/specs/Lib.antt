@@ -3,3 +3,4 @@ pub mod Change
 pub mod Full
 pub mod Laws
 pub mod Bytes
+pub mod Cross

@@ -24,10 +24,10 @@ listed (suc n) [] e = absurd (omega arith)
 listed (suc n) (x ∷ xs) e = ap (λ (l : List ℕ). x ∷ l) (listed n xs (omega arith))
 
 -- the bytes of a word, and those of equal words
-abbrev Bytes : ℕ → ℕ → ℕ → ℕ → ℕ → Type 0
+abbrev pub Bytes : ℕ → ℕ → ℕ → ℕ → ℕ → Type 0
 Bytes n a b c d = (n % 256 ≡ a) × (n / 256 % 256 ≡ b) × (n / 65536 % 256 ≡ c) × (n / 16777216 % 256 ≡ d)
 
-word-bytes : (a b c d : ℕ) → a < 256 → b < 256 → c < 256 → d < 256 → Bytes (wordOf a b c d) a b c d
+pub word-bytes : (a b c d : ℕ) → a < 256 → b < 256 → c < 256 → d < 256 → Bytes (wordOf a b c d) a b c d
 word-bytes a b c d ha hb hc hd = omega arith
 
 word-eq : (a b c d a′ b′ c′ d′ : ℕ) → a < 256 → b < 256 → c < 256 → d < 256 → a′ < 256 → b′ < 256 → c′ < 256 → d′ < 256
