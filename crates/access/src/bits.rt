@@ -5,11 +5,11 @@ ghost use Rattle.access.specs.Bits.{access_bytes_of, well_formed, bits_of};
 use layout::Group;
 
 // Bytes 6, 7 and 8 of a trailer.
-#[derive(Drop)]
+#[derive(Clone, Copy)]
 pub struct AccessBytes(pub u8, pub u8, pub u8);
 
 // What the access bytes say of a group: the sector is blocked, or the group's C1 C2 C3 as a binary number.
-#[derive(Drop)]
+#[derive(Clone, Copy)]
 pub enum Bits {
     Blocked,
     Are(u8),

@@ -1,4 +1,6 @@
 // Access bits and rights: what the three access bytes of a trailer say of a group, and which key may do what under those bits.
+#![tactic(auto)]
+
 mod bits;
 mod rights;
 

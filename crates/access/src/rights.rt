@@ -3,14 +3,14 @@ ghost use Rattle.std.specs.Prelude.{◌≡◌};
 ghost use Rattle.access.specs.Rights.{data_row, trailer_row, allows_of, keys_for, may_of, writable_of, is_yes, readable_of, mute_of};
 
 // A key letter.
-#[derive(Drop)]
+#[derive(Clone, Copy)]
 pub enum Letter {
     KeyA,
     KeyB,
 }
 
 // The keys that a row of rights names for an operation.
-#[derive(Drop)]
+#[derive(Clone, Copy)]
 pub enum Keys {
     Never,
     OnlyA,
@@ -19,14 +19,14 @@ pub enum Keys {
 }
 
 // Whether key B can be read; no bool, so that a row is four enums and loads as one word.
-#[derive(Drop)]
+#[derive(Clone, Copy)]
 pub enum Readable {
     No,
     Yes,
 }
 
 // The columns of the data table. Transfer and Restore go by Decrement's.
-#[derive(Drop)]
+#[derive(Clone, Copy)]
 pub enum Operation {
     Read,
     Write,
@@ -35,15 +35,15 @@ pub enum Operation {
 }
 
 // A row of the data table: who may read, write, increment, and decrement, transfer or restore.
-#[derive(Drop)]
+#[derive(Clone, Copy)]
 pub struct DataRow(pub Keys, pub Keys, pub Keys, pub Keys);
 
 // A row of the trailer table: who may write key A, the access bits (with the user byte) and key B, and whether key B can be read.
-#[derive(Drop)]
+#[derive(Clone, Copy)]
 pub struct TrailerRow(pub Keys, pub Keys, pub Keys, pub Readable);
 
 // The parts of a trailer: key A, bytes 6 to 9, key B.
-#[derive(Drop)]
+#[derive(Clone, Copy)]
 pub struct Parts {
     pub a: bool,
     pub bits: bool,

@@ -1,4 +1,6 @@
 // The board's calls: it keeps one session for its reader and lends it to each of them.
+#![tactic(auto)]
+
 ghost use Rattle.std.specs.Prelude.{◌≡◌};
 ghost use Rattle.card.specs.Step.{answer_of, image_after, reset_of};
 ghost use Rattle.either.specs.Either.{card_answer_of, card_image_after, card_reset_of};

@@ -1,4 +1,6 @@
 // The card: one frame, one answer.
+#![tactic(auto)]
+
 ghost use Rattle.std.specs.Prelude.{◌≡◌, ◌<◌};
 ghost use Rattle.card.specs.Effects.{sign_code, packed_of};
 ghost use Rattle.card.specs.Step.{answer_of, image_after, reset_of, no_session_of};
@@ -10,7 +12,7 @@ pub use outcome::{enact, refusal};
 use session::Session;
 
 // What goes on the air.
-#[derive(Drop)]
+#[derive(Clone, Copy)]
 pub enum Sign {
     Ack,
     Nak,
@@ -45,7 +47,7 @@ pub fn packed(number: u8, sign: Sign) -> u32
 }
 
 // The number (0 is accepted), the sign, the sixteen reply bytes and the session afterwards.
-#[derive(Drop)]
+#[derive(Clone, Copy)]
 pub struct Answer {
     pub number: u8,
     pub sign: Sign,

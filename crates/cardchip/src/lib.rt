@@ -1,4 +1,6 @@
 // The boundary for a card with its record, to a board that hands frames over as its reader chip does. The field reset is `cardedge`'s.
+#![tactic(auto)]
+
 ghost use Rattle.std.specs.Prelude.{◌≡◌, ◌<◌};
 ghost use Rattle.record.specs.Record.{record_of, session_from};
 ghost use Rattle.either.specs.Either.{sealed_card_answer_of, sealed_card_image_after};

@@ -1,4 +1,6 @@
 // The boundary to C and Rust for a card with its record: four lent bytes beside the image.
+#![tactic(auto)]
+
 ghost use Rattle.std.specs.Prelude.{◌≡◌, ◌<◌};
 ghost use Rattle.card.specs.Step.{reset_of};
 ghost use Rattle.record.specs.Record.{record_of, session_from};

@@ -1,4 +1,6 @@
 // CRC_A of ISO/IEC 14443-3, a byte at a time by a table.
+#![tactic(auto)]
+
 ghost use Rattle.std.specs.Prelude.{◌≡◌};
 ghost use Rattle.checksum.specs.Checksum.{crc_of, two_of};
 

@@ -1,4 +1,6 @@
 // The boundary for a board that hands frames over as its reader chip does, with their checksum. It is a library of its own: so each library calls the card in one place, and the compiler builds the card into that call.
+#![tactic(auto)]
+
 ghost use Rattle.std.specs.Prelude.{◌≡◌};
 ghost use Rattle.card.specs.Effects.{packed_of};
 ghost use Rattle.record.specs.Record.{record_of};

@@ -1,4 +1,6 @@
 // The boundary of the desk's tools to C and Rust: numbers and lent bytes. They take an image alone, and no session.
+#![tactic(auto)]
+
 ghost use Rattle.std.specs.Prelude.{◌≡◌, ◌<◌, length};
 ghost use Rattle.directory.specs.Lookup.{lookup_of};
 ghost use Rattle.mend.specs.All.{call_number, mended_image, report_of};

@@ -122,7 +122,7 @@ fn is_lookup(card: &[u8], lookup: &[u8]) -> bool {
 }
 
 // What a card is asked for.
-#[derive(Drop)]
+#[derive(Clone, Copy)]
 enum Question {
     Version,
     Directory,

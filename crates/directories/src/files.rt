@@ -6,7 +6,7 @@ use crate::cards;
 use libc::STDOUT_FILENO;
 
 // The files, by what their records hold.
-#[derive(Drop)]
+#[derive(Clone, Copy)]
 pub(crate) enum Kind {
     Checksums,
     Versions,
@@ -15,7 +15,7 @@ pub(crate) enum Kind {
 }
 
 // How many records agree, of how many.
-#[derive(Drop)]
+#[derive(Clone, Copy)]
 struct Score {
     agreeing: usize,
     records: usize,

@@ -1,4 +1,6 @@
 // Plays the figures of another implementation's directories against the crate `directory`: for each file how many of its records agree, of how many.
+#![tactic(auto)]
+
 mod cards;
 mod files;
 mod record;

@@ -1,5 +1,7 @@
 // The MIFARE Application Directory of AN10787: how an image announces it, what it holds, and which sector is an application's.
 // It is read as the bytes stand there: keys, rights and blocked sectors play no part.
+#![tactic(auto)]
+
 ghost use Rattle.std.specs.Prelude.{◌≡◌};
 ghost use Rattle.directory.specs.Directory.{announced_of, version_of, info_of};
 
@@ -15,7 +17,7 @@ pub use parts::{checksum, is_intact};
 pub use search::{lookup, refusal_of, sector_of_place};
 
 // The version of a directory, or none that is known.
-#[derive(Drop)]
+#[derive(Clone, Copy)]
 pub enum Version {
     Absent,
     One,
@@ -23,21 +25,21 @@ pub enum Version {
 }
 
 // A part of a directory: that of sector 0, and that of sector 16.
-#[derive(Drop)]
+#[derive(Clone, Copy)]
 pub enum Part {
     First,
     Second,
 }
 
 // The sector that a lookup found.
-#[derive(Drop)]
+#[derive(Clone, Copy)]
 pub enum Found {
     At(Sector),
     Nothing,
 }
 
 // What a lookup gives: its number, the sector, and how many entries it looked at.
-#[derive(Drop)]
+#[derive(Clone, Copy)]
 pub struct Looked {
     pub number: u8,
     pub found: Found,

@@ -1,4 +1,6 @@
 // The boundary to C and Rust: numbers, lent bytes, and the session as its record of twelve bytes.
+#![tactic(auto)]
+
 ghost use Rattle.std.specs.Prelude.{◌≡◌};
 ghost use Rattle.card.specs.Effects.{packed_of};
 ghost use Rattle.card.specs.Step.{reset_of};

@@ -1,4 +1,6 @@
 // The card's record: its edition, and how its UID is to be used.
+#![tactic(auto)]
+
 ghost use Rattle.std.specs.Prelude.{◌≡◌};
 ghost use Rattle.edition.specs.Edition.{old_card, usage_of, wrong_size};
 
@@ -6,14 +8,14 @@ mod bytes;
 
 pub use bytes::{choice_by, decode, encode, is_usage};
 
-#[derive(Drop)]
+#[derive(Clone, Copy)]
 pub enum Edition {
     Old,
     Ev1,
 }
 
 // How a card shows its UID: the four types of Personalize UID Usage.
-#[derive(Drop)]
+#[derive(Clone, Copy)]
 pub enum Usage {
     Double,
     Shortened,
@@ -22,27 +24,27 @@ pub enum Usage {
 }
 
 // Open to a choice, or locked for good.
-#[derive(Drop)]
+#[derive(Clone, Copy)]
 pub enum Choice {
     Open,
     Locked(Usage),
 }
 
-#[derive(Drop)]
+#[derive(Clone, Copy)]
 pub struct CardRecord {
     pub edition: Edition,
     pub choice: Choice,
 }
 
 // What a type byte asks for.
-#[derive(Drop)]
+#[derive(Clone, Copy)]
 pub enum Asked {
     For(Usage),
     Unknown,
 }
 
 // What four bytes hold: a card's record, or they are none.
-#[derive(Drop)]
+#[derive(Clone, Copy)]
 pub enum Found {
     Card(CardRecord),
     Nothing,

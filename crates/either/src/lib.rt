@@ -1,4 +1,6 @@
 // A card of either edition, with its record.
+#![tactic(auto)]
+
 ghost use Rattle.std.specs.Prelude.{◌≡◌};
 ghost use Rattle.judge.specs.Code.{shortened};
 ghost use Rattle.card.specs.Effects.{image_of};
@@ -17,7 +19,7 @@ pub use sealing::{SealedCardAnswer, sealed_card, sealed_no_session, sealed_step}
 use session::{Register, Session};
 
 // The answer, the value of its NAK (0 where there is none) and the record afterwards.
-#[derive(Drop)]
+#[derive(Clone, Copy)]
 pub struct CardAnswer {
     pub answer: Answer,
     pub nak: u8,

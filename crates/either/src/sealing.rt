@@ -11,7 +11,7 @@ use sealed::SealedAnswer;
 use session::Session;
 
 // The answer, the value of its NAK (0 where there is none) and the record afterwards.
-#[derive(Drop)]
+#[derive(Clone, Copy)]
 pub struct SealedCardAnswer {
     pub answer: SealedAnswer,
     pub nak: u8,

@@ -1,4 +1,6 @@
 // The EV1's player for C and Rust.
+#![tactic(auto)]
+
 ghost use Rattle.std.specs.Prelude.{◌≡◌, length};
 ghost use Rattle.play.specs.Text.{put_of};
 ghost use Rattle.play.specs.Printout.{ev1_printout_of};

@@ -1,4 +1,6 @@
 // Plays the figures of other implementations against the crates: for each file how many of its lines agree, of how many.
+#![tactic(auto)]
+
 mod bits;
 mod blocks;
 mod checksums;

@@ -6,7 +6,7 @@ use crate::{bits, blocks, checksums, line, rights, values};
 use libc::STDOUT_FILENO;
 
 // The files, by what their lines hold.
-#[derive(Drop)]
+#[derive(Clone, Copy)]
 pub(crate) enum Figures {
     Layout,
     AccessBytes,
@@ -19,7 +19,7 @@ pub(crate) enum Figures {
 }
 
 // How many lines agree, of how many.
-#[derive(Drop)]
+#[derive(Clone, Copy)]
 struct Score {
     agreeing: usize,
     lines: usize,

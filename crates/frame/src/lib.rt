@@ -1,4 +1,6 @@
 // What a frame asks for.
+#![tactic(auto)]
+
 ghost use Rattle.std.specs.Prelude.{◌≡◌};
 ghost use Rattle.frame.specs.Command.{byte_in, eight_bytes_of, two_bytes_of, first_of, command_of};
 
@@ -8,7 +10,7 @@ use session::{Kind, Stage};
 
 // What is asked, and of which block. Write and Store are the first and the second frame of a Write, Begin and Apply those of a value operation.
 // Each case that has a block has it first, so that the code keeps it in one place.
-#[derive(Drop)]
+#[derive(Clone, Copy)]
 pub enum Command {
     Unknown,
     Authenticate(Block, Letter),

@@ -26,7 +26,7 @@ use Rattle.issue.specs.Read.{count_of, infos_of, bytes_of}
 use Rattle.issue.specs.Laws.{Bytes}
 use Rattle.issue.proofs.Choice.{and_both, digit_of, needed_of}
 use Rattle.issue.proofs.Blocks.{filled_same}
-use Rattle.issue.proofs.Listing.{bytes_append, bytes_length}
+use Rattle.issue.proofs.Lists.{bytes_append, bytes_length}
 use Rattle.issue.proofs.Versions.{written_as_lem, whole_of, whole_held, first_length, second_length}
 
 -- bytes, as numbers and as bytes again

@@ -25,7 +25,7 @@ use Rattle.issue.specs.Read.{count_of, infos_of, bytes_of, list_of, read_version
 use Rattle.issue.specs.Laws.{Bytes, version_on, infos_for, ReadsBack, Held, Lowest, FindsLowest, numbers_read, SameAgain, NotAmong, OthersStay, KeysStay, BitsStay, RefusedStays, LengthStays, ByLength, FifteenNumbers, FromDelivery, FromZero}
 use Rattle.issue.proofs.Choice.{digit_of, Fits, fits_version, Choice, choice, needed_some}
 use Rattle.issue.proofs.Blocks.{held, filled_length, filled_other, filled_back}
-use Rattle.issue.proofs.Listing.{bytes_length, entries_count}
+use Rattle.issue.proofs.Lists.{bytes_length, entries_count}
 use Rattle.issue.proofs.Versions.{written_as_lem, directory_length, has_trailer, blocks_apart, trailer_apart, announcing_bits, announced_length, announced_other, announced_held, announced_trailer, announced_byte, announces, whole_of, whole_held, Back, back}
 use Rattle.issue.proofs.Again.{bytes_back, announces_version, written_same}
 
@@ -163,14 +163,14 @@ reads_back image infos numbers b w = go (choice (sectors_of (length image)) (len
         → (read_of (written_image image infos numbers)
         ≡ record { number = 0; version = version_on image numbers; infos = infos_for infos (version_on image numbers) })
         × (read_list (written_image image infos numbers) ≡ numbers ++ replicate (76 - length numbers) 0)
-    go (Choice.one_of_lem v f e) = rw (is_last image infos numbers v f, e) (read_back image infos numbers v f b)
+    go (Choice.one_of v f e) = rw (is_last image infos numbers v f, e) (read_back image infos numbers v f b)
     go (Choice.no_version e) = absurd (accepted (length image) (length numbers) w e)
 
 pub finds_lowest : FindsLowest
 finds_lowest image infos numbers wanted w = go (choice (sectors_of (length image)) (length numbers))
   where
     go : Choice (sectors_of (length image)) (length numbers) → Lowest (numbers_of numbers) wanted (lookup_of (written_image image infos numbers) wanted)
-    go (Choice.one_of_lem v f e) =
+    go (Choice.one_of v f e) =
         let l = last image infos numbers v f in
         rw (is_last image infos numbers v f) (found image infos numbers v f wanted (every_entry l wanted (sound image infos numbers v f)))
     go (Choice.no_version e) = absurd (accepted (length image) (length numbers) w e)
@@ -179,35 +179,35 @@ pub others_stay : OthersStay
 others_stay image infos numbers j a = go (choice (sectors_of (length image)) (length numbers))
   where
     go : Choice (sectors_of (length image)) (length numbers) → content_of (written_image image infos numbers) j ≡ content_of image j
-    go (Choice.one_of_lem v f e) = rw (is_last image infos numbers v f) (others image infos numbers v f j (rw e at a))
+    go (Choice.one_of v f e) = rw (is_last image infos numbers v f) (others image infos numbers v f j (rw e at a))
     go (Choice.no_version e) = rw (unwritten image infos numbers e)
 
 pub keys_stay : KeysStay
 keys_stay image infos numbers i ne = go (choice (sectors_of (length image)) (length numbers))
   where
     go : Choice (sectors_of (length image)) (length numbers) → byte_of (written_image image infos numbers) (block_at 3) i ≡ byte_of image (block_at 3) i
-    go (Choice.one_of_lem v f e) = rw (is_last image infos numbers v f) (keys image infos numbers v f i ne)
+    go (Choice.one_of v f e) = rw (is_last image infos numbers v f) (keys image infos numbers v f i ne)
     go (Choice.no_version e) = rw (unwritten image infos numbers e)
 
 pub bits_stay : BitsStay
 bits_stay image infos numbers = go (choice (sectors_of (length image)) (length numbers))
   where
     go : Choice (sectors_of (length image)) (length numbers) → byte_of (written_image image infos numbers) (block_at 3) 9 / 4 % 32 ≡ byte_of image (block_at 3) 9 / 4 % 32
-    go (Choice.one_of_lem v f e) = rw (is_last image infos numbers v f) (bits image infos numbers v f)
+    go (Choice.one_of v f e) = rw (is_last image infos numbers v f) (bits image infos numbers v f)
     go (Choice.no_version e) = rw (unwritten image infos numbers e)
 
 pub length_stays : LengthStays
 length_stays image infos numbers = go (choice (sectors_of (length image)) (length numbers))
   where
     go : Choice (sectors_of (length image)) (length numbers) → length (written_image image infos numbers) ≡ length image
-    go (Choice.one_of_lem v f e) = rw (is_last image infos numbers v f) (last_length image infos numbers v f)
+    go (Choice.one_of v f e) = rw (is_last image infos numbers v f) (last_length image infos numbers v f)
     go (Choice.no_version e) = rw (unwritten image infos numbers e)
 
 pub refused_stays : RefusedStays
 refused_stays image infos numbers ne = go (choice (sectors_of (length image)) (length numbers))
   where
     go : Choice (sectors_of (length image)) (length numbers) → written_image image infos numbers ≡ image
-    go (Choice.one_of_lem v f e) = absurd (ne (fits_accepted (length image) (length numbers) v f))
+    go (Choice.one_of v f e) = absurd (ne (fits_accepted (length image) (length numbers) v f))
     go (Choice.no_version e) = unwritten image infos numbers e
 
 -- read and written again

@@ -1,7 +1,7 @@
 pub mod Choice
 pub mod Blocks
 pub mod Filling
-pub mod Listing
+pub mod Lists
 pub mod Ways
 pub mod Versions
 pub mod Again

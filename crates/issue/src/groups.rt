@@ -7,7 +7,7 @@ use access::{AccessBytes, Bits};
 use layout::{Group, Sector};
 
 // What reading a sector's access bytes gives: the number, and the bits of its groups in their order.
-#[derive(Drop)]
+#[derive(Clone, Copy)]
 pub struct GroupBits {
     pub number: u8,
     pub bits: [u8; 4],

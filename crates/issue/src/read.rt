@@ -6,7 +6,7 @@ ghost use Rattle.issue.specs.Read.{count_of, infos_of, list_of, read_of, read_li
 use directory::{Part, Version};
 
 // What reading gives beside the list: the number, the version, and the info bytes, 0 where there is none.
-#[derive(Drop)]
+#[derive(Clone, Copy)]
 pub struct Listing {
     pub number: u8,
     pub version: Version,

@@ -6,14 +6,14 @@ use crate::{access_bytes, directories};
 use libc::STDOUT_FILENO;
 
 // The files, by what their records hold.
-#[derive(Drop)]
+#[derive(Clone, Copy)]
 pub(crate) enum Kind {
     Directories,
     AccessBytes,
 }
 
 // How many records agree, of how many.
-#[derive(Drop)]
+#[derive(Clone, Copy)]
 struct Score {
     agreeing: usize,
     records: usize,

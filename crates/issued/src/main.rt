@@ -1,4 +1,6 @@
 // Plays directories and access bytes of another implementation against the crate `issue`: for each file how many of its records agree, of how many.
+#![tactic(auto)]
+
 mod access_bytes;
 mod directories;
 mod files;

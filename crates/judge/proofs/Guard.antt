@@ -51,7 +51,7 @@ module _ (x : AccessBytes) (l : Letter) (o : Operation) (b : Block) (small : b.0
       let m : n ≡ group_bits x Trailer = own ∙ ap (group_bits x) t in
       rw (well, group_trailer b small t, zero_first b t, t, m)
 
-  pub data_way : (g : Group) (m : ℕ) → g ≡ group_of b → OneOf (0 ∷ 1 ∷ 2 ∷ []) (tag_of the_type g) → m ≡ group_bits x Trailer
+  pub data_way : (g : Group) (m : ℕ) → g ≡ group_of b → (g ≡ Trailer → ⊥) → m ≡ group_bits x Trailer
       → granted (first (check 6 (is_forbidden o (eqb b.0 0) false) ∷ check 7 (not (right_of l o false n m)) ∷ [])) Whole ≡ guarded_of x l o b
   unfolding first is_blocked
   data_way g m e k h = go (is_trailer b) refl
@@ -66,9 +66,7 @@ module _ (x : AccessBytes) (l : Letter) (o : Operation) (b : Block) (small : b.0
           ∷ []))
           (cond t (trailer_grant o (writable_of l (group_bits x Trailer)) (group_bits x Trailer)) Whole)
       go false f = rw (well, own, h)
-      go true f =
-          let z : OneOf (0 ∷ 1 ∷ 2 ∷ []) (tag_of the_type Trailer) = rw (e ∙ trailer_group b small f) at k in
-          absurd (miss (0 ∷ 1 ∷ 2 ∷ []) 3 tt z)
+      go true f = absurd (k (e ∙ trailer_group b small f))
 
 -- in its own sector a session has a letter, and its rights are the letter's
 rights_of : (auth : Auth) (t : Sector) (o : Operation) (trailer : Bool) (n m : ℕ) → in_sector auth t ≡ true

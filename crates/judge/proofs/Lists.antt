@@ -10,6 +10,7 @@ use types.Run.{OneOf, miss}
 use denote.Enum.Declared.{tag_of}
 use Rattle.layout.specs.Layout.{is_trailer}
 use Rattle.layout.specs.declared.Block.{Block}
+use Rattle.access.specs.declared.rights.Letter.{Letter}
 use Rattle.access.specs.declared.rights.Operation.{Operation}
 use Rattle.access.specs.declared.rights.Operation.TheVariants as column
 use Rattle.access.specs.declared.bits.AccessBytes.{AccessBytes}
@@ -133,25 +134,18 @@ module _ (image : List ℕ) (auth : Auth) (b : Block) (m : ℕ) where
       let q : ◌≡◌ {A = ℕ} 0 1 = cc in
       absurd (omega (arith, q))
 
--- the commands that have no way with a trailer, and those that are no memory commands, by their places in the enum
-abbrev no_trailer_lem : List ℕ
-no_trailer_lem = 0 ∷ 1 ∷ 5 ∷ 6 ∷ 7 ∷ 8 ∷ []
-
-abbrev no_memory : List ℕ
-no_memory = 0 ∷ 1 ∷ 8 ∷ []
-
 -- what the judgement hands on is a memory command
-pub is_memory_lem : (c : Command) → OneOf (2 ∷ 3 ∷ 4 ∷ 5 ∷ 6 ∷ 7 ∷ []) (tag_of the_type c) → is_memory c ≡ true
+pub is_memory_lem : (c : Command) → (c ≡ Unknown → ⊥) → ((b : Block) (l : Letter) → c ≡ Authenticate b l → ⊥) → (c ≡ Halt → ⊥) → is_memory c ≡ true
 unfolding is_memory
-is_memory_lem Unknown k = absurd (miss (2 ∷ 3 ∷ 4 ∷ 5 ∷ 6 ∷ 7 ∷ []) 0 tt k)
-is_memory_lem (Authenticate b l) k = absurd (miss (2 ∷ 3 ∷ 4 ∷ 5 ∷ 6 ∷ 7 ∷ []) 1 tt k)
-is_memory_lem (Read b) k = refl
-is_memory_lem (Write b) k = refl
-is_memory_lem (Store b) k = refl
-is_memory_lem (Begin b j) k = refl
-is_memory_lem (Apply b j) k = refl
-is_memory_lem (Transfer b) k = refl
-is_memory_lem Halt k = absurd (miss (2 ∷ 3 ∷ 4 ∷ 5 ∷ 6 ∷ 7 ∷ []) 8 tt k)
+is_memory_lem Unknown u a h = absurd (u refl)
+is_memory_lem (Authenticate b l) u a h = absurd (a b l refl)
+is_memory_lem (Read b) u a h = refl
+is_memory_lem (Write b) u a h = refl
+is_memory_lem (Store b) u a h = refl
+is_memory_lem (Begin b j) u a h = refl
+is_memory_lem (Apply b j) u a h = refl
+is_memory_lem (Transfer b) u a h = refl
+is_memory_lem Halt u a h = absurd (h refl)
 
 -- the code's way: the column and the block that it asked about, and the verdict that it got
 module _ (image : List ℕ) (s : Session) (c : Command) (frame : List ℕ) (o : Operation) (b : Block) (v : Verdict) (memory : is_memory c ≡ true)
@@ -177,38 +171,41 @@ module _ (image : List ℕ) (s : Session) (c : Command) (frame : List ℕ) (o : 
       rw (← q) (rw (two_parts image s c frame memory, pass shared (further_of image s c) f.0, f.1))
 
   -- only a Read and a Write come to parts of a trailer: 6 refuses the others
-  pub no_parts : (m : ℕ) → v ≡ InParts m → OneOf no_trailer_lem (tag_of the_type c) → (act : Act) → act ≡ coded_of image s c frame
+  pub no_parts : (m : ℕ) → v ≡ InParts m → ((d : Block) → c ≡ Read d → ⊥) → ((d : Block) → c ≡ Write d → ⊥) → ((d : Block) → c ≡ Store d → ⊥) → (act : Act) → act ≡ coded_of image s c frame
   unfolding is_memory column_of block_of kind_column is_forbidden
-  no_parts m e k act = absurd (parts_of c memory k (rw (asked, about) at (sym got ∙ e)))
+  no_parts m e r w o act = absurd (parts_of c memory r w o (rw (asked, about) at (sym got ∙ e)))
     where
       by_kind : (d : Block) (k : Kind) → verdict_of image s.auth (kind_column k) d ≡ InParts m → ⊥
       by_kind d Increment = no_value_lem image s.auth d m column.Increment (λ z t. refl)
       by_kind d Decrement = no_value_lem image s.auth d m column.Decrement (λ z t. refl)
       by_kind d Restore = no_value_lem image s.auth d m column.Decrement (λ z t. refl)
 
-      parts_of : (c : Command) → is_memory c ≡ true → OneOf no_trailer_lem (tag_of the_type c) → verdict_of image s.auth (column_of c) (block_of c) ≡ InParts m → ⊥
-      parts_of Unknown h k f = false≢true h
-      parts_of (Authenticate d l) h k f = false≢true h
-      parts_of (Read d) h k f = miss no_trailer_lem 2 tt k
-      parts_of (Write d) h k f = miss no_trailer_lem 3 tt k
-      parts_of (Store d) h k f = miss no_trailer_lem 4 tt k
-      parts_of (Begin d j) h k f = by_kind d j f
-      parts_of (Apply d j) h k f = by_kind d j f
-      parts_of (Transfer d) h k f = no_value_lem image s.auth d m column.Decrement (λ z t. refl) f
-      parts_of Halt h k f = false≢true h
+      parts_of : (c : Command) → is_memory c ≡ true → ((d : Block) → c ≡ Read d → ⊥) → ((d : Block) → c ≡ Write d → ⊥) → ((d : Block) → c ≡ Store d → ⊥)
+          → verdict_of image s.auth (column_of c) (block_of c) ≡ InParts m → ⊥
+      parts_of Unknown h r w o f = false≢true h
+      parts_of (Authenticate d l) h r w o f = false≢true h
+      parts_of (Read d) h r w o f = r d refl
+      parts_of (Write d) h r w o f = w d refl
+      parts_of (Store d) h r w o f = o d refl
+      parts_of (Begin d j) h r w o f = by_kind d j f
+      parts_of (Apply d j) h r w o f = by_kind d j f
+      parts_of (Transfer d) h r w o f = no_value_lem image s.auth d m column.Decrement (λ z t. refl) f
+      parts_of Halt h r w o f = false≢true h
 
   -- and what is no memory command does not come here
-  pub no_more : OneOf no_memory (tag_of the_type c) → (act : Act) → act ≡ coded_of image s c frame
+  pub no_more : ((d : Block) → c ≡ Read d → ⊥) → ((d : Block) → c ≡ Write d → ⊥) → ((d : Block) → c ≡ Store d → ⊥)
+      → ((d : Block) (k : Kind) → c ≡ Begin d k → ⊥) → ((d : Block) (k : Kind) → c ≡ Apply d k → ⊥) → ((d : Block) → c ≡ Transfer d → ⊥)
+      → (act : Act) → act ≡ coded_of image s c frame
   unfolding is_memory
-  no_more k act = absurd (memory_of c memory k)
+  no_more no_read no_write no_store no_begin no_apply no_transfer act = absurd (memory_of c memory refl)
     where
-      memory_of : (c : Command) → is_memory c ≡ true → OneOf no_memory (tag_of the_type c) → ⊥
-      memory_of Unknown h k = false≢true h
-      memory_of (Authenticate d l) h k = false≢true h
-      memory_of (Read d) h k = miss no_memory 2 tt k
-      memory_of (Write d) h k = miss no_memory 3 tt k
-      memory_of (Store d) h k = miss no_memory 4 tt k
-      memory_of (Begin d j) h k = miss no_memory 5 tt k
-      memory_of (Apply d j) h k = miss no_memory 6 tt k
-      memory_of (Transfer d) h k = miss no_memory 7 tt k
-      memory_of Halt h k = false≢true h
+      memory_of : (x : Command) → is_memory x ≡ true → c ≡ x → ⊥
+      memory_of Unknown h e = false≢true h
+      memory_of (Authenticate d l) h e = false≢true h
+      memory_of (Read d) h e = no_read d e
+      memory_of (Write d) h e = no_write d e
+      memory_of (Store d) h e = no_store d e
+      memory_of (Begin d j) h e = no_begin d j e
+      memory_of (Apply d j) h e = no_apply d j e
+      memory_of (Transfer d) h e = no_transfer d e
+      memory_of Halt h e = false≢true h

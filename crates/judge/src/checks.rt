@@ -11,7 +11,7 @@ use layout::{Block, Group};
 use session::Auth;
 
 // What the checks of a memory command leave: a refusal, its block whole, or a trailer by its parts, with the trailer's bits.
-#[derive(Drop)]
+#[derive(Clone, Copy)]
 pub enum Verdict {
     Refuse(u8),
     Whole,

@@ -1,4 +1,6 @@
 // The judgement of a frame: every check in its order, none after the one that refuses, and what the frame then does.
+#![tactic(auto)]
+
 ghost use Rattle.std.specs.Prelude.{◌≡◌};
 ghost use Rattle.judge.specs.Judge.{judge_of};
 ghost use Rattle.judge.specs.Code.{shortened};
@@ -15,7 +17,7 @@ use session::{Kind, Session};
 
 // What a frame does: it is refused with a number, or accepted with what its effects need.
 // TrailerShown and TrailerStored carry the trailer's bits, which say which parts. A case that has a block has it first. A Write that may change every part of a trailer is given as Stored.
-#[derive(Drop)]
+#[derive(Clone, Copy)]
 pub enum Act {
     Refused(u8),
     Authenticated(Sector, Letter),

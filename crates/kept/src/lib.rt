@@ -1,4 +1,6 @@
 // A card with its record and with the figures of its value blocks.
+#![tactic(auto)]
+
 ghost use Rattle.std.specs.Prelude.{◌≡◌, cond, true, [], ◌∷◌, ◌++◌, length};
 ghost use Rattle.judge.specs.First.{check, first, refuses};
 ghost use Rattle.judge.specs.Checks.{frame_checks};
@@ -16,7 +18,7 @@ use session::Session;
 use tally::Figures;
 
 // The answer with its record, and the figures afterwards.
-#[derive(Drop)]
+#[derive(Clone, Copy)]
 pub struct KeptAnswer {
     pub answer: CardAnswer,
     pub figures: Figures,

@@ -10,7 +10,7 @@ use session::Session;
 use tally::Figures;
 
 // The answer with its record, and the figures afterwards.
-#[derive(Drop)]
+#[derive(Clone, Copy)]
 pub struct SealedKeptAnswer {
     pub answer: SealedCardAnswer,
     pub figures: Figures,

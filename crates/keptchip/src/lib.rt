@@ -1,4 +1,6 @@
 // The boundary for a card with its record and its figures, to a board that hands frames over as its reader chip does. The field reset is `keptedge`'s.
+#![tactic(auto)]
+
 ghost use Rattle.std.specs.Prelude.{◌≡◌, ◌<◌};
 ghost use Rattle.record.specs.Record.{record_of, session_from};
 ghost use Rattle.kept.specs.Kept.{sealed_kept_answer_of, sealed_kept_image_after};

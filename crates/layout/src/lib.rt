@@ -1,18 +1,20 @@
 // Where blocks stand: the image sizes, sectors, trailers and access groups.
 // A block address and a sector number are different types, and nothing but this crate makes one from the other.
+#![tactic(auto)]
+
 ghost use Rattle.std.specs.Prelude.{◌≡◌, not, ◌<◌, eqb};
 ghost use Rattle.layout.specs.Layout.{sectors_of, blocks_of, has_sector, has_block, sector_of, trailer_of, is_trailer, group_at, group_of, group_number};
 
 // A block address.
-#[derive(Drop)]
+#[derive(Clone, Copy)]
 pub struct Block(pub u8);
 
 // A sector number.
-#[derive(Drop)]
+#[derive(Clone, Copy)]
 pub struct Sector(pub u8);
 
 // An access group of a sector: its data blocks in three parts, and its trailer.
-#[derive(Drop)]
+#[derive(Clone, Copy)]
 pub enum Group {
     First,
     Second,

@@ -1,5 +1,7 @@
 // The blocks of a lent image: read one byte or all sixteen, store sixteen. Nothing above this crate computes an offset.
 // A second Write frame brings its sixteen bytes as a block has them, so they are taken here too.
+#![tactic(auto)]
+
 ghost use Rattle.std.specs.Prelude.{◌≡◌, ◌*◌, ◌≤◌, length, take};
 ghost use Rattle.memory.specs.Memory.{sixteen_of, content_of, byte_of, store_of};
 

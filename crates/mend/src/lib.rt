@@ -1,4 +1,6 @@
 // Torn value blocks, mended where most of their readings agree.
+#![tactic(auto)]
+
 mod all;
 mod one;
 mod rule;

@@ -6,7 +6,7 @@ use crate::rule::{Mended, majority_of};
 use layout::Block;
 
 // A block's number, and which of its bytes changed: bit i for byte i.
-#[derive(Drop)]
+#[derive(Clone, Copy)]
 pub struct Outcome {
     pub number: u8,
     pub changed: u16,

@@ -3,7 +3,7 @@ ghost use Rattle.std.specs.Prelude.{◌≡◌, ◌-◌};
 ghost use Rattle.mend.specs.Rule.{two_agree, majority_of_three, three_agree, majority_of_four, majority_rule, mended_of};
 
 // What a block is mended to: a value, as its bits, and an address byte; or there is no majority.
-#[derive(Drop)]
+#[derive(Clone, Copy)]
 pub enum Mended {
     As(u32, u8),
     NoMajority,

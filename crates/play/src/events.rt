@@ -14,7 +14,7 @@ use either::CardAnswer;
 use session::Session;
 
 // How answers are kept: each as its line of the printout, as eighteen bytes, or as nineteen with the NAK's value.
-#[derive(Drop)]
+#[derive(Clone, Copy)]
 pub(crate) enum Form {
     Lines(Edition),
     Results,

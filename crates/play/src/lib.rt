@@ -1,4 +1,6 @@
 // The run of a script and its printout, every byte of it.
+#![tactic(auto)]
+
 ghost use Rattle.std.specs.Prelude.{◌≡◌, ◌≤◌, length};
 ghost use Rattle.edition.specs.Edition.{old_card};
 ghost use Rattle.edition.specs.declared.Edition.TheVariants.{Old};
@@ -20,14 +22,14 @@ use events::Form;
 use session::Session;
 
 // Where the kept answers end, and the session after the last event.
-#[derive(Drop)]
+#[derive(Clone, Copy)]
 pub struct Ended {
     pub end: usize,
     pub session: Session,
 }
 
 // The same, and the record.
-#[derive(Drop)]
+#[derive(Clone, Copy)]
 pub struct CardEnded {
     pub end: usize,
     pub session: Session,

@@ -1,4 +1,6 @@
 // The EV1's script player: standard input in, the printout out. Nothing is decided here.
+#![tactic(auto)]
+
 ghost use Rattle.std.specs.Prelude.{◌≡◌, length};
 
 use libc::{STDIN_FILENO, STDOUT_FILENO};

@@ -1,4 +1,6 @@
 // The player for C and Rust. It is a library of its own: so each library calls the card in one place, and the compiler builds the card into that call.
+#![tactic(auto)]
+
 ghost use Rattle.std.specs.Prelude.{◌≡◌, length};
 ghost use Rattle.play.specs.Text.{put_of};
 ghost use Rattle.play.specs.Printout.{printout_of};

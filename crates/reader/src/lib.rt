@@ -1,17 +1,19 @@
 // A walk over a lent script that remembers its place. The work is done by functions on the slice and the number.
+#![tactic(auto)]
+
 ghost use Rattle.std.specs.Prelude.{◌≡◌};
 ghost use Rattle.script.specs.Script.{events_start};
 ghost use Rattle.reader.specs.Reader.{found_at, step_at, part_of, bytes_of};
 
 // The script, and the place where the walk stands.
-#[derive(Drop)]
+#[derive(Clone, Copy)]
 pub struct Reader<'a> {
     script: &'a [u8],
     at: usize,
 }
 
 // What stands at a place: an event, with where its bytes start and how many they are; the end; or a refusal.
-#[derive(Drop)]
+#[derive(Clone, Copy)]
 pub enum Found {
     Event(usize, usize),
     End,
@@ -19,7 +21,7 @@ pub enum Found {
 }
 
 // What stands at a place, and where the next event does.
-#[derive(Drop)]
+#[derive(Clone, Copy)]
 pub struct Step {
     pub found: Found,
     pub next: usize,

@@ -1,4 +1,6 @@
 // The session as a record of twelve bytes, there and back, for callers that cannot hold an enum.
+#![tactic(auto)]
+
 ghost use Rattle.std.specs.Prelude.{◌≡◌};
 ghost use Rattle.record.specs.Record.{record_of, named_by, found_in};
 
@@ -9,7 +11,7 @@ mod named;
 use session::Session;
 
 // What twelve bytes hold: a session, or they are no session's record.
-#[derive(Drop)]
+#[derive(Clone, Copy)]
 pub enum Found {
     Session(Session),
     Nothing,

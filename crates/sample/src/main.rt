@@ -1,4 +1,6 @@
 // Plays fixed frames to the card, and prints for each what comes back: its number from 1, the result number, and what is on the air.
+#![tactic(auto)]
+
 mod image;
 mod print;
 mod runs;

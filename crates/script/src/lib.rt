@@ -1,4 +1,6 @@
 // The script format: an image and the events to play on it. It is judged as a whole before anything is played.
+#![tactic(auto)]
+
 ghost use Rattle.std.specs.Prelude.{◌≡◌, ◌<◌, get_or};
 ghost use Rattle.script.specs.Script.{refusal_in, count_at, image_size, image_part, event_count, events_start, event_refusal, next_at, events_from, no_size, body_of, reading_of, place_of, end_refusal};
 
@@ -85,7 +87,7 @@ pub fn event_refusal(script: &[u8], at: usize) -> u8
 }
 
 // What a walk over events comes to: the place after the last one, or the refusal met first.
-#[derive(Drop)]
+#[derive(Clone, Copy)]
 enum Walked {
     To(usize),
     Stopped(u8),

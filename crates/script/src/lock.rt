@@ -6,7 +6,7 @@ use crate::{Walked, body};
 use edition::{Choice, Edition};
 
 // The refusal that is met first, 0 for a lawful script, and the choice at the start.
-#[derive(Drop)]
+#[derive(Clone, Copy)]
 pub struct Ev1Script {
     pub refusal: u8,
     pub choice: Choice,

@@ -1,4 +1,6 @@
 // Plays the scripts of data/ one after the other on an EV1: each name, and then the printout.
+#![tactic(auto)]
+
 ghost use Rattle.std.specs.Prelude.{◌≡◌, length};
 ghost use Rattle.io.specs.Counts.{IsPrefixLen};
 

@@ -1,4 +1,6 @@
 // Frames as the reader chip hands them over: the bytes of a bare frame, then their checksum. A Read's reply goes back in the same way.
+#![tactic(auto)]
+
 ghost use Rattle.std.specs.Prelude.{◌≡◌, not, true, [], ◌∷◌, ◌++◌};
 ghost use Rattle.judge.specs.First.{check, first, refuses};
 ghost use Rattle.judge.specs.Checks.{frame_checks};
@@ -9,7 +11,7 @@ use card::{Answer, Sign};
 use session::Session;
 
 // The number (0 is accepted), the sign, the eighteen reply bytes and the session afterwards.
-#[derive(Drop)]
+#[derive(Clone, Copy)]
 pub struct SealedAnswer {
     pub number: u8,
     pub sign: Sign,

@@ -1,4 +1,6 @@
 // The session record of a reader: who is authenticated, which second frame is awaited, and the register.
+#![tactic(auto)]
+
 ghost use Rattle.std.specs.Prelude.{◌≡◌};
 ghost use Rattle.session.specs.Session.{fresh_of, is_idle, is_empty, coherent_of, in_sector};
 
@@ -6,14 +8,14 @@ use access::Letter;
 use layout::{Block, Sector};
 
 // Who is authenticated: for which sector, and under which key.
-#[derive(Drop)]
+#[derive(Clone, Copy)]
 pub enum Auth {
     Nobody,
     As(Sector, Letter),
 }
 
 // A value operation.
-#[derive(Drop)]
+#[derive(Clone, Copy)]
 pub enum Kind {
     Increment,
     Decrement,
@@ -21,7 +23,7 @@ pub enum Kind {
 }
 
 // Which second frame is awaited, and for which block.
-#[derive(Drop)]
+#[derive(Clone, Copy)]
 pub enum Stage {
     Idle,
     WriteWaits(Block),
@@ -29,13 +31,13 @@ pub enum Stage {
 }
 
 // A value, as its bits, and its address byte; or nothing.
-#[derive(Drop)]
+#[derive(Clone, Copy)]
 pub enum Register {
     Empty,
     Full(u32, u8),
 }
 
-#[derive(Drop)]
+#[derive(Clone, Copy)]
 pub struct Session {
     pub auth: Auth,
     pub stage: Stage,

@@ -7,14 +7,14 @@ ghost use Rattle.tally.specs.Change.{figures_of, count_fits, sum_fits, in_range,
 use value::Decoded;
 
 // How many value blocks there are, and the sum of their values.
-#[derive(Drop)]
+#[derive(Clone, Copy)]
 pub struct Figures {
     pub count: u64,
     pub sum: u64,
 }
 
 // The new figures; or they leave their ranges.
-#[derive(Drop)]
+#[derive(Clone, Copy)]
 pub enum Settled {
     Kept(Figures),
     Outside,

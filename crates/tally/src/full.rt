@@ -7,7 +7,7 @@ use crate::change::{Figures, added, share_of};
 use layout::Block;
 
 // The number of an opening, 11 or 0, and the figures to keep.
-#[derive(Drop)]
+#[derive(Clone, Copy)]
 pub struct Opened {
     pub number: u8,
     pub figures: Figures,

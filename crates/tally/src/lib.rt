@@ -1,4 +1,6 @@
 // The count and the sum of all value blocks on a card, kept beside its image.
+#![tactic(auto)]
+
 mod bytes;
 mod change;
 mod full;

@@ -6,14 +6,14 @@ use crate::blocks;
 use libc::STDOUT_FILENO;
 
 // The files, by what their records hold.
-#[derive(Drop)]
+#[derive(Clone, Copy)]
 pub(crate) enum Kind {
     Blocks,
     Forms,
 }
 
 // How many records agree, of how many.
-#[derive(Drop)]
+#[derive(Clone, Copy)]
 struct Score {
     agreeing: usize,
     records: usize,

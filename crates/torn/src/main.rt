@@ -1,4 +1,6 @@
 // Plays value blocks of another implementation against the crate `mend`: for each file how many of its records agree, of how many.
+#![tactic(auto)]
+
 mod blocks;
 mod files;
 mod record;

@@ -6,7 +6,7 @@ ghost use Rattle.value.specs.Block.{encode_of, decode_of, agreeing};
 use crate::bytes;
 
 // What sixteen bytes hold: a value, as its bits, with an address byte; or they are no value block.
-#[derive(Drop)]
+#[derive(Clone, Copy)]
 pub enum Decoded {
     Value(u32, u8),
     NoValue,

@@ -4,7 +4,7 @@ ghost use Rattle.value.specs.Whole.{signed};
 ghost use Rattle.value.specs.Sum.{is_negative, plus_of, minus_of};
 
 // A result as its bits; or its operand is below zero; or it is outside the range of a value.
-#[derive(Drop)]
+#[derive(Clone, Copy)]
 pub enum Total {
     Fits(u32),
     Negative,

@@ -1,1 +1,2 @@
 // No code: laws of exclusive or that the two checksums share.
+#![tactic(auto)]

@@ -1,0 +1,8 @@
+-- `writable` asks `allows` for each part.
+use Rattle.access.specs.Rights.{writable_of}
+use borrow.Author.Rules.{rules}
+use Rattle.access.proofs.rights.writable.Goals as goal
+
+pub returns : goal.returns
+unfolding writable_of
+returns c = rw (c.allows-b.ensures, c.allows-middle.ensures, c.allows-a.ensures, c.trailer_row-row.ensures)

@@ -1,0 +1,6 @@
+-- The fresh session of `fresh`.
+use borrow.Author.Rules.{rules}
+use Rattle.card.proofs.field_reset.Goals as goal
+
+pub returns : goal.returns
+returns c = rw c.fresh-session.ensures

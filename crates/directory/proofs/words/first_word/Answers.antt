@@ -1,0 +1,9 @@
+-- The first eight bytes of a block.
+use mathlib.Core.Path.{sym, ◌∙◌, ap}
+use Rattle.directory.specs.Checksum.{bytes_on}
+use Rattle.directory.proofs.Blocks.{first_eight}
+use borrow.Author.Rules.{rules}
+use Rattle.directory.proofs.words.first_word.Goals as goal
+
+pub returns : goal.returns
+returns c = λ x. c.word.ensures x ∙ ap (bytes_on x) (first_eight c.args.block (search rules))

@@ -1,0 +1,11 @@
+-- Blocked; or the bits of the four groups.
+use mathlib.Core.Path.{◌∙◌}
+use Rattle.issue.proofs.Ways.{all_blocked, all_told}
+use borrow.Author.Rules.{rules}
+use Rattle.issue.proofs.groups.told_by.Goals as goal
+
+pub returns-in_default : goal.returns-in_default
+returns-in_default c = c.refused.ensures ∙ all_blocked _ _ c.bits_of.ensures c.in_default.is
+
+pub returns : goal.returns
+returns c = all_told _ _ c.bits_of.ensures _ _ _ _ c.in-Are.is c.bits_in-b.ensures c.bits_in-c.ensures c.bits_in-d.ensures

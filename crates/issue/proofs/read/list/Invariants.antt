@@ -1,0 +1,10 @@
+use Prim.Native.Nat.{◌-◌}
+use Rattle.issue.proofs.Lists.{Listed, start, turn, finished}
+use borrow.Author.Rules.{rules}
+use Rattle.issue.proofs.read.list.Given as goal
+
+abbrev pub invariant-loop-i : goal.invariant-loop-i
+invariant-loop-i l = Listed l.image l.count l.numbers l.i
+
+abbrev pub decreases-loop-i : goal.decreases-loop-i
+decreases-loop-i l = l.count - l.i

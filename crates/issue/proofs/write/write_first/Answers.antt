@@ -1,0 +1,7 @@
+-- The part, filled and put into its blocks.
+use mathlib.Core.Path.{◌∙◌}
+use borrow.Author.Rules.{rules}
+use Rattle.issue.proofs.write.write_first.Goals as goal
+
+pub returns : goal.returns
+returns c = c.store_first.ensures ∙ rw c.fill_part.ensures

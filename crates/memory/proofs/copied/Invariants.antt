@@ -1,0 +1,12 @@
+use mathlib.Core.Path.{◌≡◌, refl}
+use Prim.Native.Nat.{◌≤◌, ◌-◌}
+use lib.ListN.{length, take, length-set}
+use Rattle.memory.proofs.Copy.{copy_step, copy_done}
+use borrow.Author.Rules.{rules}
+use Rattle.memory.proofs.copied.Given as goal
+
+abbrev pub invariant-loop-i : goal.invariant-loop-i
+invariant-loop-i l = (16 ≤ length l.bytes) × (length l.copy ≡ 16) × (l.i ≤ 16) × (take l.i l.copy ≡ take l.i l.bytes)
+
+abbrev pub decreases-loop-i : goal.decreases-loop-i
+decreases-loop-i l = 16 - l.i

@@ -1,0 +1,13 @@
+use mathlib.Core.Path.{◌≡◌, refl, ◌∙◌}
+use Prim.Native.Nat.{◌≤◌, ◌-◌}
+use lib.ListN.{length, take, length-set}
+use lib.Seq.{take_all}
+use Rattle.memory.proofs.Copy.{copy_step, copy_done}
+use borrow.Author.Rules.{rules}
+use Rattle.memory.proofs.overwrite.Given as goal
+
+abbrev pub invariant-loop-i : goal.invariant-loop-i
+invariant-loop-i l = (length l.part ≡ 16) × (length l.bytes ≡ 16) × (l.i ≤ 16) × (take l.i l.part ≡ take l.i l.bytes)
+
+abbrev pub decreases-loop-i : goal.decreases-loop-i
+decreases-loop-i l = 16 - l.i

@@ -1,0 +1,14 @@
+use Prim.Native.Nat.{◌≤◌, ◌-◌}
+use Rattle.mend.proofs.Changed.{start, room, turn, all_told}
+use mathlib.Core.Path.{◌≡◌}
+use native.Mathlib.Omega.{arith}
+use lib.ListN.{drop}
+use Rattle.mend.specs.One.{changed_of}
+use borrow.Author.Rules.{rules}
+use Rattle.mend.proofs.one.changed_of.Given as goal
+
+abbrev pub invariant-loop-i : goal.invariant-loop-i
+invariant-loop-i l = (l.i ≤ 16) × (l.bits ≡ changed_of (drop l.i l.before) (drop l.i l.after))
+
+abbrev pub decreases-loop-i : goal.decreases-loop-i
+decreases-loop-i l = l.i

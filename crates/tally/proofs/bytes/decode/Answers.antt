@@ -1,0 +1,11 @@
+-- Two words for each figure.
+use Rattle.tally.specs.Bytes.{figures_in}
+use Rattle.std.proofs.Common.{rules}
+use Rattle.tally.proofs.bytes.decode.Reads as reads
+use Rattle.tally.proofs.bytes.joined.Reads as joined-reads
+use Rattle.value.proofs.word.Reads as word-reads
+use Rattle.tally.proofs.bytes.decode.Goals as goal
+
+pub returns : goal.returns
+unfolding figures_in
+returns c = rw (c.joined-sum.ensures, c.joined-count.ensures, c.word-d.ensures, c.word-c.ensures, c.word-b.ensures, c.word-a.ensures)
