@@ -3,11 +3,11 @@
 
 ghost use Rattle.std.specs.Prelude.{◌≡◌};
 ghost use Rattle.card.specs.Step.{answer_of, image_after, reset_of};
-ghost use Rattle.either.specs.Either.{card_answer_of, card_image_after, card_reset_of};
+ghost use Rattle.either_card.specs.Either.{card_answer_of, card_image_after, card_reset_of};
 
 use card::Answer;
 use edition::CardRecord;
-use either::CardAnswer;
+use either_card::CardAnswer;
 use session::Session;
 
 // One frame. The session is afterwards the one that the answer carries.
@@ -48,7 +48,7 @@ pub fn card_frame(
         × (session.new ≡ (card_answer_of image.old card session.old frame.now).answer.session)
         × (image.new ≡ card_image_after image.old card session.old frame.now) }
 {
-    let a = either::step(image, card, *session, frame);
+    let a = either_card::step(image, card, *session, frame);
     *session = session_of(a);
     a
 }
@@ -57,7 +57,7 @@ pub fn card_frame(
 pub fn card_reset(card: CardRecord, session: &mut Session) -> CardAnswer
     ensures { (result ≡ card_reset_of card) × (session.new ≡ (card_reset_of card).answer.session) }
 {
-    let a = either::field_reset(card);
+    let a = either_card::field_reset(card);
     *session = session_of(a);
     a
 }

@@ -10,8 +10,8 @@ use Rattle.edition.specs.Bytes.{record_bytes, found_in}
 use Rattle.edition.specs.declared.Found.{Found}
 use Rattle.edition.specs.declared.Found.TheVariants.{Card, Nothing}
 use Rattle.edition.specs.declared.CardRecord.{CardRecord}
-use Rattle.either.specs.Either.{sealed_card_answer_of, sealed_card_image_after}
-use Rattle.either.specs.declared.sealing.SealedCardAnswer.{SealedCardAnswer}
+use Rattle.either_card.specs.Either.{sealed_card_answer_of, sealed_card_image_after}
+use Rattle.either_card.specs.declared.sealing.SealedCardAnswer.{SealedCardAnswer}
 
 -- number, sign and the NAK's value in one: the number in the low byte, then the sign's, then the value
 abbrev pub packed_with : ℕ → Sign → ℕ → ℕ

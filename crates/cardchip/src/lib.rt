@@ -3,11 +3,11 @@
 
 ghost use Rattle.std.specs.Prelude.{◌≡◌, ◌<◌};
 ghost use Rattle.record.specs.Record.{record_of, session_from};
-ghost use Rattle.either.specs.Either.{sealed_card_answer_of, sealed_card_image_after};
+ghost use Rattle.either_card.specs.Either.{sealed_card_answer_of, sealed_card_image_after};
 ghost use Rattle.cardchip.specs.CardChip.{packed_with, card_sealed_of, card_sealed_image};
 
 use edition::CardRecord;
-use either::SealedCardAnswer;
+use either_card::SealedCardAnswer;
 use sealed::SealedAnswer;
 
 fn wide(b: u8) -> u32
@@ -37,8 +37,8 @@ fn answer(image: &mut [u8], k: CardRecord, session: [u8; 12], frame: &[u8]) -> S
     ensures image_after { image.new ≡ sealed_card_image_after image.old k (session_from session) frame.now }
 {
     match record::decode(session) {
-        record::Found::Session(s) => either::sealed_step(image, k, s, frame),
-        record::Found::Nothing => either::sealed_no_session(k, image.len()),
+        record::Found::Session(s) => either_card::sealed_step(image, k, s, frame),
+        record::Found::Nothing => either_card::sealed_no_session(k, image.len()),
     }
 }
 

@@ -9,8 +9,8 @@ use Rattle.edition.specs.Bytes.{record_bytes, found_in}
 use Rattle.edition.specs.declared.Found.{Found}
 use Rattle.edition.specs.declared.Found.TheVariants.{Card, Nothing}
 use Rattle.edition.specs.declared.CardRecord.{CardRecord}
-use Rattle.either.specs.Either.{card_answer_of, card_image_after}
-use Rattle.either.specs.declared.CardAnswer.{CardAnswer}
+use Rattle.either_card.specs.Either.{card_answer_of, card_image_after}
+use Rattle.either_card.specs.declared.CardAnswer.{CardAnswer}
 
 -- number, sign and the NAK's value in one: the number in the low byte, then the sign's, then the value
 abbrev pub packed_with : ℕ → Sign → ℕ → ℕ

@@ -4,12 +4,12 @@
 ghost use Rattle.std.specs.Prelude.{◌≡◌, ◌<◌};
 ghost use Rattle.card.specs.Step.{reset_of};
 ghost use Rattle.record.specs.Record.{record_of, session_from};
-ghost use Rattle.either.specs.Either.{card_answer_of, card_image_after};
+ghost use Rattle.either_card.specs.Either.{card_answer_of, card_image_after};
 ghost use Rattle.cardedge.specs.CardEdge.{packed_with, card_frame_of, card_frame_image};
 
 use card::Answer;
 use edition::CardRecord;
-use either::CardAnswer;
+use either_card::CardAnswer;
 
 fn wide(b: u8) -> u32
     ensures { (result ≡ b) × (result < 256) }
@@ -38,8 +38,8 @@ fn answer(image: &mut [u8], k: CardRecord, session: [u8; 12], frame: &[u8]) -> C
     ensures image_after { image.new ≡ card_image_after image.old k (session_from session) frame.now }
 {
     match record::decode(session) {
-        record::Found::Session(s) => either::step(image, k, s, frame),
-        record::Found::Nothing => either::no_session(k, image.len()),
+        record::Found::Session(s) => either_card::step(image, k, s, frame),
+        record::Found::Nothing => either_card::no_session(k, image.len()),
     }
 }
 

@@ -26,8 +26,8 @@ use Rattle.record.specs.Record.{value_bits, record_of, session_from}
 use Rattle.record.proofs.Laws.{reads_back, from_small}
 use Rattle.edition.specs.Edition.{old_card}
 use Rattle.edition.specs.declared.CardRecord.{CardRecord}
-use Rattle.either.proofs.Laws.{old_card_lem}
-use Rattle.either.proofs.Sealed.{old_sealed}
+use Rattle.either_card.proofs.Laws.{old_card_lem}
+use Rattle.either_card.proofs.Sealed.{old_sealed}
 use Rattle.script.specs.Script.{Reading, lawful, reading_of}
 use Rattle.script.specs.Lock.{ev1_reading_of}
 use Rattle.runs.specs.Run.{State, begin, Sent, reset, bare, sealed, answer_to, image_upon, after, run_of, frame_in, act_of, acted}

@@ -43,10 +43,10 @@ use Rattle.edition.specs.declared.Asked.TheVariants as type
 use Rattle.edition.specs.declared.Choice.{Choice}
 use Rattle.edition.specs.declared.Choice.TheVariants.{Open, Locked}
 use Rattle.edition.specs.declared.CardRecord.{CardRecord}
-use Rattle.either.specs.Personal.{is_personal, read_zero, choosing, acknowledged}
-use Rattle.either.specs.Either.{card_act_of, sealed_card_act_of, given_for, card_answer_of, card_image_after, sealed_card_of, sealed_card_answer_of, sealed_card_image_after}
-use Rattle.either.specs.Code.{given_of}
-use Rattle.either.proofs.Laws.{read_command, personal_idle, refusal_given}
+use Rattle.either_card.specs.Personal.{is_personal, read_zero, choosing, acknowledged}
+use Rattle.either_card.specs.Either.{card_act_of, sealed_card_act_of, given_for, card_answer_of, card_image_after, sealed_card_of, sealed_card_answer_of, sealed_card_image_after}
+use Rattle.either_card.specs.Code.{given_of}
+use Rattle.either_card.proofs.Laws.{read_command, personal_idle, refusal_given}
 use Rattle.runs.specs.Run.{State, Sent, reset, bare, sealed, answer_to, image_upon, act_of}
 use Rattle.demands.specs.Demand1.{Wanted, shared, personalize, Row, row, any_frame, no_usage, is_locked, no_card_for, command_rows, table, wanted_of, asked, Met, here, below, owed_for, Demand1}
 

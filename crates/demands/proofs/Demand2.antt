@@ -15,10 +15,10 @@ use Rattle.card.specs.Effects.{image_of}
 use Rattle.sealed.specs.Sealed.{inner_of, unsealed, sealed_of}
 use Rattle.edition.specs.declared.Edition.TheVariants.{Old}
 use Rattle.edition.specs.declared.CardRecord.{CardRecord}
-use Rattle.either.specs.Either.{card_answer_of, card_image_after, sealed_card_of, sealed_card_answer_of, sealed_card_image_after}
-use Rattle.either.specs.Code.{given_of}
-use Rattle.either.proofs.Laws.{refusal_given, old_card_lem}
-use Rattle.either.proofs.Sealed.{inner_card_act, old_sealed}
+use Rattle.either_card.specs.Either.{card_answer_of, card_image_after, sealed_card_of, sealed_card_answer_of, sealed_card_image_after}
+use Rattle.either_card.specs.Code.{given_of}
+use Rattle.either_card.proofs.Laws.{refusal_given, old_card_lem}
+use Rattle.either_card.proofs.Sealed.{inner_card_act, old_sealed}
 use Rattle.runs.proofs.Laws.{answers_cut, run_cut}
 use Rattle.laws.proofs.Keeps.{unsealed_refused}
 use Rattle.runs.specs.Run.{State, Sent, reset, bare, sealed, answer_to, image_upon, after, run_of, answers_of}

@@ -17,8 +17,8 @@ use Rattle.card.specs.Step.{answered}
 use Rattle.checksum.specs.Checksum.{shifted, shifts, byte_on, bytes_on, crc_of, two_of}
 use Rattle.sealed.specs.Sealed.{inner_of, seal_in, unsealed, sealed_reply, sealed_of}
 use Rattle.edition.specs.Edition.{usage_of}
-use Rattle.either.specs.Personal.{is_personal, choosing, acknowledged}
-use Rattle.either.specs.Either.{card_act_of, sealed_card_act_of, given_for, card_answer_of, card_image_after, sealed_card_of, sealed_card_answer_of, sealed_card_image_after}
+use Rattle.either_card.specs.Personal.{is_personal, choosing, acknowledged}
+use Rattle.either_card.specs.Either.{card_act_of, sealed_card_act_of, given_for, card_answer_of, card_image_after, sealed_card_of, sealed_card_answer_of, sealed_card_image_after}
 use Rattle.tally.specs.Change.{in_range, count_by, sum_by, kept_of, settled_of}
 use Rattle.tally.specs.Full.{counts, share_at, total_to, opened_of}
 use Rattle.kept.specs.Kept.{settled_at, settled_by, kept_checks, kept_act_of, kept_for, kept_answer_of, kept_image_after, sealed_kept_of, sealed_kept_answer_of, sealed_kept_image_after}

@@ -22,9 +22,9 @@ use Rattle.card.specs.Effects.{image_of}
 use Rattle.sealed.specs.Sealed.{inner_of, unsealed}
 use Rattle.edition.specs.Edition.{wrong_size}
 use Rattle.edition.specs.declared.CardRecord.{CardRecord}
-use Rattle.either.specs.Either.{card_act_of, sealed_card_act_of}
-use Rattle.either.specs.declared.CardAnswer.{CardAnswer}
-use Rattle.either.proofs.Sealed.{inner_card_act}
+use Rattle.either_card.specs.Either.{card_act_of, sealed_card_act_of}
+use Rattle.either_card.specs.declared.CardAnswer.{CardAnswer}
+use Rattle.either_card.proofs.Sealed.{inner_card_act}
 use Rattle.tally.specs.Change.{in_range}
 use Rattle.tally.specs.Full.{counts, opened_of}
 use Rattle.tally.specs.declared.full.Opened.{Opened}

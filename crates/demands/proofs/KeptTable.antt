@@ -39,12 +39,12 @@ use Rattle.edition.specs.declared.Asked.TheVariants as type
 use Rattle.edition.specs.declared.Choice.{Choice}
 use Rattle.edition.specs.declared.Choice.TheVariants.{Open, Locked}
 use Rattle.edition.specs.declared.CardRecord.{CardRecord}
-use Rattle.either.specs.Personal.{is_personal, read_zero, chosen, choosing}
-use Rattle.either.specs.Either.{card_act_of, sealed_card_act_of, given_for, sealed_card_of}
-use Rattle.either.specs.Code.{given_of}
-use Rattle.either.specs.declared.CardAnswer.{CardAnswer}
-use Rattle.either.proofs.Laws.{refusal_given}
-use Rattle.either.proofs.Sealed.{inner_card_act}
+use Rattle.either_card.specs.Personal.{is_personal, read_zero, chosen, choosing}
+use Rattle.either_card.specs.Either.{card_act_of, sealed_card_act_of, given_for, sealed_card_of}
+use Rattle.either_card.specs.Code.{given_of}
+use Rattle.either_card.specs.declared.CardAnswer.{CardAnswer}
+use Rattle.either_card.proofs.Laws.{refusal_given}
+use Rattle.either_card.proofs.Sealed.{inner_card_act}
 use Rattle.tally.specs.Change.{in_range, settled_of}
 use Rattle.tally.specs.Full.{counts}
 use Rattle.tally.specs.declared.change.Figures.{Figures}

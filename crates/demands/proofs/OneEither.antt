@@ -8,17 +8,17 @@ use denote.Ref.{MutBor, at_last}
 use Rattle.session.specs.declared.Session.{Session}
 use Rattle.judge.specs.declared.Act.{Act}
 use Rattle.edition.specs.declared.CardRecord.{CardRecord}
-use Rattle.either.specs.declared.CardAnswer.{CardAnswer}
-use Rattle.either.specs.declared.sealing.SealedCardAnswer.{SealedCardAnswer}
-use Rattle.either.proofs.judge.Reads as judge-contract
-use Rattle.either.proofs.enact.Reads as enact-contract
-use Rattle.either.proofs.refusal.Reads as refusal-contract
-use Rattle.either.proofs.step.Reads as step-contract
-use Rattle.either.proofs.field_reset.Reads as field-reset-contract
-use Rattle.either.proofs.no_session.Reads as no-session-contract
-use Rattle.either.proofs.sealed_card.Reads as sealed-card-contract
-use Rattle.either.proofs.sealed_step.Reads as sealed-step-contract
-use Rattle.either.proofs.sealed_no_session.Reads as sealed-no-session-contract
+use Rattle.either_card.specs.declared.CardAnswer.{CardAnswer}
+use Rattle.either_card.specs.declared.sealing.SealedCardAnswer.{SealedCardAnswer}
+use Rattle.either_card.proofs.judge.Reads as judge-contract
+use Rattle.either_card.proofs.enact.Reads as enact-contract
+use Rattle.either_card.proofs.refusal.Reads as refusal-contract
+use Rattle.either_card.proofs.step.Reads as step-contract
+use Rattle.either_card.proofs.field_reset.Reads as field-reset-contract
+use Rattle.either_card.proofs.no_session.Reads as no-session-contract
+use Rattle.either_card.proofs.sealed_card.Reads as sealed-card-contract
+use Rattle.either_card.proofs.sealed_step.Reads as sealed-step-contract
+use Rattle.either_card.proofs.sealed_no_session.Reads as sealed-no-session-contract
 use Rattle.demands.specs.One.{OneResult}
 use Rattle.demands.proofs.Exact.{exact}
 

@@ -26,9 +26,9 @@ use Rattle.edition.specs.declared.Asked.TheVariants as type
 use Rattle.edition.specs.declared.Choice.{Choice}
 use Rattle.edition.specs.declared.Choice.TheVariants.{Open, Locked}
 use Rattle.edition.specs.declared.CardRecord.{CardRecord}
-use Rattle.either.specs.Nak.{nak_of}
-use Rattle.either.specs.Personal.{is_personal}
-use Rattle.either.specs.declared.CardAnswer.{CardAnswer}
+use Rattle.either_card.specs.Nak.{nak_of}
+use Rattle.either_card.specs.Personal.{is_personal}
+use Rattle.either_card.specs.declared.CardAnswer.{CardAnswer}
 use Rattle.runs.specs.Run.{State, Sent, reset, bare, sealed, answer_to, image_upon}
 
 -- what is asked of a card: a command of either edition, or an EV1's 40h with its type byte

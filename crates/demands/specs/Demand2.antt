@@ -7,7 +7,7 @@ use Rattle.session.specs.declared.Session.{Session}
 use Rattle.card.specs.Step.{answer_of, image_after}
 use Rattle.sealed.specs.Sealed.{inner_of, unsealed, sealed_answer_of, sealed_image_after}
 use Rattle.edition.specs.declared.CardRecord.{CardRecord}
-use Rattle.either.specs.Either.{card_answer_of, card_image_after, sealed_card_of, sealed_card_answer_of, sealed_card_image_after}
+use Rattle.either_card.specs.Either.{card_answer_of, card_image_after, sealed_card_of, sealed_card_answer_of, sealed_card_image_after}
 use Rattle.runs.specs.Run.{State, Sent, reset, bare, sealed, answer_to, after, run_of, answers_of}
 
 -- every value in range and every address byte, written as a value block, read back

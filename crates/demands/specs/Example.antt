@@ -13,7 +13,7 @@ use Rattle.edition.specs.declared.Edition.TheVariants.{Ev1}
 use Rattle.edition.specs.declared.Usage.TheVariants.{Shortened}
 use Rattle.edition.specs.declared.Choice.TheVariants.{Open, Locked}
 use Rattle.edition.specs.declared.CardRecord.{CardRecord}
-use Rattle.either.specs.declared.CardAnswer.{CardAnswer}
+use Rattle.either_card.specs.declared.CardAnswer.{CardAnswer}
 use Rattle.tally.specs.Whole.{whole}
 use Rattle.tally.specs.Change.{figures_of}
 use Rattle.tally.specs.Full.{opened_of}

@@ -17,7 +17,7 @@ use Rattle.judge.specs.declared.Act.TheVariants.{Stored, Moved}
 use Rattle.card.specs.declared.Sign.TheVariants.{Nak, Nothing}
 use Rattle.sealed.specs.Sealed.{inner_of, unsealed}
 use Rattle.edition.specs.declared.CardRecord.{CardRecord}
-use Rattle.either.specs.Either.{card_reset_of}
+use Rattle.either_card.specs.Either.{card_reset_of}
 use Rattle.tally.specs.Whole.{whole}
 use Rattle.tally.specs.Change.{in_range}
 use Rattle.tally.specs.Full.{count_of, sum_of, opened_of}

@@ -39,12 +39,12 @@ use Rattle.edition.specs.declared.Choice.{Choice}
 use Rattle.edition.specs.declared.Choice.TheVariants.{Open, Locked}
 use Rattle.edition.specs.declared.Asked.{Asked}
 use Rattle.edition.specs.declared.Asked.TheVariants as asked
-use Rattle.either.specs.Personal.{read_zero, chosen, choosing}
-use Rattle.either.specs.Either.{personal, card_act_of, sealed_card_act_of, given_for}
-use Rattle.either.specs.Code.{given_of}
-use Rattle.either.specs.declared.CardAnswer.{CardAnswer}
-use Rattle.either.proofs.Laws.{short_given, refusal_given}
-use Rattle.either.proofs.Sealed.{inner_card_act}
+use Rattle.either_card.specs.Personal.{read_zero, chosen, choosing}
+use Rattle.either_card.specs.Either.{personal, card_act_of, sealed_card_act_of, given_for}
+use Rattle.either_card.specs.Code.{given_of}
+use Rattle.either_card.specs.declared.CardAnswer.{CardAnswer}
+use Rattle.either_card.proofs.Laws.{short_given, refusal_given}
+use Rattle.either_card.proofs.Sealed.{inner_card_act}
 use Rattle.tally.specs.Change.{in_range}
 use Rattle.tally.specs.Full.{counts}
 use Rattle.tally.specs.declared.change.Figures.{Figures}

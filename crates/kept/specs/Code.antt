@@ -3,7 +3,7 @@ use Rattle.std.specs.Prelude.{cond, ℕ}
 use Rattle.session.specs.declared.Session.{Session}
 use Rattle.card.specs.Step.{refusal_of}
 use Rattle.edition.specs.declared.CardRecord.{CardRecord}
-use Rattle.either.specs.Code.{given_of}
+use Rattle.either_card.specs.Code.{given_of}
 use Rattle.tally.specs.Change.{in_range}
 use Rattle.tally.specs.declared.change.Figures.{Figures}
 use Rattle.kept.specs.declared.KeptAnswer.{KeptAnswer}

@@ -13,7 +13,7 @@ use Rattle.card.specs.Effects.{image_of}
 use Rattle.sealed.specs.Sealed.{inner_of}
 use Rattle.edition.specs.Edition.{wrong_size}
 use Rattle.edition.specs.declared.CardRecord.{CardRecord}
-use Rattle.either.specs.Either.{card_act_of, sealed_card_act_of, given_for, sealed_card_of, card_reset_of, card_no_session_of}
+use Rattle.either_card.specs.Either.{card_act_of, sealed_card_act_of, given_for, sealed_card_of, card_reset_of, card_no_session_of}
 use Rattle.tally.specs.Change.{in_range, settled_of}
 use Rattle.tally.specs.Full.{counts}
 use Rattle.tally.specs.declared.change.Figures.{Figures}

@@ -11,7 +11,7 @@ mod sealing;
 mod settle;
 
 use edition::CardRecord;
-use either::CardAnswer;
+use either_card::CardAnswer;
 use judge::Act;
 pub use sealing::{SealedKeptAnswer, sealed_no_session, sealed_step};
 use session::Session;
@@ -47,14 +47,14 @@ pub fn step(image: &mut [u8], k: CardRecord, f: Figures, s: Session, frame: &[u8
     ensures image_after { image.new ≡ kept_image_after image.old k f s frame.now }
 {
     let act = if tally::in_range(f) {
-        either::judge(&image[..], k, s, frame)
+        either_card::judge(&image[..], k, s, frame)
     } else {
         Act::Refused(early_refusal(k, &image[..], s, 29))
     };
     let settled = settle::settled_by(&image[..], f, act, frame);
     let figures = settle::figures_by(settled, f);
     let last = settle::lastly(settled, act);
-    let answer = either::enact(image, k, s, last, frame);
+    let answer = either_card::enact(image, k, s, last, frame);
     KeptAnswer { answer, figures }
 }
 
@@ -62,7 +62,7 @@ pub fn step(image: &mut [u8], k: CardRecord, f: Figures, s: Session, frame: &[u8
 pub fn field_reset(k: CardRecord, f: Figures) -> KeptAnswer
     ensures { result ≡ kept_reset_of k f }
 {
-    let answer = either::field_reset(k);
+    let answer = either_card::field_reset(k);
     KeptAnswer { answer, figures: f }
 }
 
@@ -70,6 +70,6 @@ pub fn field_reset(k: CardRecord, f: Figures) -> KeptAnswer
 pub fn no_session(k: CardRecord, f: Figures, bytes: usize) -> KeptAnswer
     ensures { result ≡ kept_no_session_of k f bytes }
 {
-    let answer = either::no_session(k, bytes);
+    let answer = either_card::no_session(k, bytes);
     KeptAnswer { answer, figures: f }
 }

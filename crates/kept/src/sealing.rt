@@ -5,7 +5,7 @@ ghost use Rattle.kept.specs.Kept.{sealed_kept_of, sealed_kept_answer_of, sealed_
 
 use crate::{KeptAnswer, early_refusal, no_session, step};
 use edition::CardRecord;
-use either::SealedCardAnswer;
+use either_card::SealedCardAnswer;
 use session::Session;
 use tally::Figures;
 
@@ -21,7 +21,7 @@ fn sealed_kept(a: KeptAnswer) -> SealedKeptAnswer
 {
     let bare = a.answer;
     let figures = a.figures;
-    let answer = either::sealed_card(bare);
+    let answer = either_card::sealed_card(bare);
     SealedKeptAnswer { answer, figures }
 }
 
@@ -29,7 +29,7 @@ fn sealed_kept(a: KeptAnswer) -> SealedKeptAnswer
 fn refused(k: CardRecord, f: Figures, s: Session, n: u8) -> KeptAnswer
     ensures { result ≡ refused_kept k f s n }
 {
-    let answer = either::refusal(k, s, n);
+    let answer = either_card::refusal(k, s, n);
     KeptAnswer { answer, figures: f }
 }
 

@@ -28,10 +28,10 @@ use Rattle.edition.specs.declared.Choice.TheVariants.{Open, Locked}
 use Rattle.edition.specs.declared.Asked.{Asked}
 use Rattle.edition.specs.declared.Asked.TheVariants.{For, Unknown}
 use Rattle.edition.specs.declared.CardRecord.{CardRecord}
-use Rattle.either.specs.Personal.{read_zero, chosen, choosing}
-use Rattle.either.specs.Either.{personal, card_act_of, sealed_card_act_of, given_for, card_answer_of, sealed_card_of, sealed_card_answer_of}
-use Rattle.either.proofs.Laws.{read_command, personal_idle}
-use Rattle.either.proofs.Sealed.{inner_card_act}
+use Rattle.either_card.specs.Personal.{read_zero, chosen, choosing}
+use Rattle.either_card.specs.Either.{personal, card_act_of, sealed_card_act_of, given_for, card_answer_of, sealed_card_of, sealed_card_answer_of}
+use Rattle.either_card.proofs.Laws.{read_command, personal_idle}
+use Rattle.either_card.proofs.Sealed.{inner_card_act}
 use Rattle.runs.specs.Run.{State, Sent, reset, bare, sealed, answer_to, after, run_of, answers_of, frame_in, act_of, acted}
 use Rattle.runs.specs.Watch.{noted, always}
 use Rattle.runs.proofs.Laws.{after_acts}

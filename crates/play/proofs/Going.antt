@@ -11,7 +11,7 @@ use borrow.Author.Tests.{eqb-true, eqb-false}
 use Rattle.session.specs.Session.{fresh_of}
 use Rattle.session.specs.declared.Session.{Session}
 use Rattle.edition.specs.declared.CardRecord.{CardRecord}
-use Rattle.either.specs.declared.CardAnswer.{CardAnswer}
+use Rattle.either_card.specs.declared.CardAnswer.{CardAnswer}
 use Rattle.script.specs.Script.{event_refusal, frame_at, next_at, Walk, walked, stopped, before, events_from, stop_in, events_on}
 use Rattle.reader.specs.Reader.{step_at, bytes_of}
 use Rattle.reader.specs.declared.Step.{Step}

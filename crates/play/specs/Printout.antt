@@ -9,7 +9,7 @@ use Rattle.edition.specs.Edition.{old_card}
 use Rattle.edition.specs.declared.Edition.{Edition}
 use Rattle.edition.specs.declared.Edition.TheVariants.{Old, Ev1}
 use Rattle.edition.specs.declared.CardRecord.{CardRecord}
-use Rattle.either.specs.declared.CardAnswer.{CardAnswer}
+use Rattle.either_card.specs.declared.CardAnswer.{CardAnswer}
 use Rattle.script.specs.Script.{Reading, lawful, refused, image_size, image_part, event_count, reading_of}
 use Rattle.script.specs.Lock.{ev1_reading_of}
 use Rattle.runs.specs.Run.{begin, Sent, run_of, answers_of}

@@ -1,7 +1,7 @@
 -- The results of a run as bytes, for those who embed it.
 use Rattle.std.specs.Prelude.{List, [], ◌∷◌, ◌++◌, ℕ}
 use Rattle.card.specs.Effects.{sign_code}
-use Rattle.either.specs.declared.CardAnswer.{CardAnswer}
+use Rattle.either_card.specs.declared.CardAnswer.{CardAnswer}
 use Rattle.play.specs.Printout.{event_line, event_lines}
 use Rattle.play.specs.declared.events.Form.{Form}
 use Rattle.play.specs.declared.events.Form.TheVariants.{Lines, Results, CardResults}

@@ -10,7 +10,7 @@ use crate::CardEnded;
 use crate::lines::put_event;
 use crate::results::{put_card_result, put_result};
 use edition::{CardRecord, Edition};
-use either::CardAnswer;
+use either_card::CardAnswer;
 use session::Session;
 
 // How answers are kept: each as its line of the printout, as eighteen bytes, or as nineteen with the NAK's value.
@@ -27,9 +27,9 @@ fn event(image: &mut [u8], k: CardRecord, s: Session, frame: &[u8]) -> CardAnswe
     ensures image_after { image.new ≡ image_upon (record { card = k; image = image.old; session = s }) (sent_of frame.now) }
 {
     if frame.len() == 0 {
-        return either::field_reset(k);
+        return either_card::field_reset(k);
     }
-    either::step(image, k, s, frame)
+    either_card::step(image, k, s, frame)
 }
 
 // The answer to event i, kept from a place on.

@@ -6,7 +6,7 @@ ghost use Rattle.play.specs.Printout.{refusal_line, header_line, nak_mark, mark_
 use crate::text::{low_digit, put, put_byte, put_decimal, put_hex};
 use card::Sign;
 use edition::Edition;
-use either::CardAnswer;
+use either_card::CardAnswer;
 
 // A word and a number after it.
 fn put_number(out: &mut [u8], at: usize, word: &[u8], n: usize) -> usize

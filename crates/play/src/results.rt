@@ -4,7 +4,7 @@ ghost use Rattle.play.specs.Text.{Put};
 ghost use Rattle.play.specs.Results.{result_of, card_result_of};
 
 use crate::text::put;
-use either::CardAnswer;
+use either_card::CardAnswer;
 
 fn put_reply(out: &mut [u8], at: usize, reply: [u8; 16]) -> usize
     requires { at + 16 ≤ length out.old }

@@ -3,7 +3,7 @@ use Rattle.std.specs.Prelude.{List, [], ◌∷◌, ℕ}
 use Rattle.judge.specs.declared.Act.{Act}
 use Rattle.judge.specs.declared.Act.TheVariants.{Halted}
 use Rattle.edition.specs.declared.CardRecord.{CardRecord}
-use Rattle.either.specs.declared.CardAnswer.{CardAnswer}
+use Rattle.either_card.specs.declared.CardAnswer.{CardAnswer}
 use Rattle.tally.specs.Full.{opened_of}
 use Rattle.tally.specs.declared.change.Figures.{Figures}
 use Rattle.kept.specs.Kept.{settled_by, figures_by, bare_kept, sealed_kept, kept_answer_of, kept_image_after, sealed_kept_answer_of, sealed_kept_image_after, kept_reset_of}

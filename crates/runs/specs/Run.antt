@@ -9,9 +9,9 @@ use Rattle.card.specs.declared.Answer.{Answer}
 use Rattle.sealed.specs.Sealed.{inner_of}
 use Rattle.sealed.specs.declared.SealedAnswer.{SealedAnswer}
 use Rattle.edition.specs.declared.CardRecord.{CardRecord}
-use Rattle.either.specs.Either.{card_act_of, sealed_card_act_of, card_answer_of, card_image_after, sealed_card_answer_of, sealed_card_image_after, card_reset_of}
-use Rattle.either.specs.declared.CardAnswer.{CardAnswer}
-use Rattle.either.specs.declared.sealing.SealedCardAnswer.{SealedCardAnswer}
+use Rattle.either_card.specs.Either.{card_act_of, sealed_card_act_of, card_answer_of, card_image_after, sealed_card_answer_of, sealed_card_image_after, card_reset_of}
+use Rattle.either_card.specs.declared.CardAnswer.{CardAnswer}
+use Rattle.either_card.specs.declared.sealing.SealedCardAnswer.{SealedCardAnswer}
 
 -- what lasts from one event to the next
 pub record State : Type 0 where

@@ -57,9 +57,9 @@ unfolding two_of
 put_two bytes reply two l e f = rw (f, ← e, listed 18 bytes l)
 
 -- what is no data has no bytes
-pub no_data_lem : (sign : Sign) (reply : List ℕ) → OneOf (0 ∷ 1 ∷ 3 ∷ []) (tag_of the_type sign) → replicate 18 0 ≡ sealed_reply sign reply
+pub no_data_lem : (sign : Sign) (reply : List ℕ) → (sign ≡ Data → ⊥) → replicate 18 0 ≡ sealed_reply sign reply
 unfolding sealed_reply
 no_data_lem Ack reply k = refl
 no_data_lem Nak reply k = refl
-no_data_lem Data reply k = absurd (miss (0 ∷ 1 ∷ 3 ∷ []) 2 tt k)
+no_data_lem Data reply k = absurd (k refl)
 no_data_lem Nothing reply k = refl

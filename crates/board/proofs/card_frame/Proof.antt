@@ -40,20 +40,20 @@ use denote.Triple.Table.{entered, cited}
 use denote.Triple.Walked.{says, Stays, stay_ref, gave_slice, stay_none_slice, stay_dropped, walk_of, AllGo, Goes-ref, Goes-gave_slice, Goes-none_slice, Goes-dropped, Walks, ends_at, walked, walk_Meets}
 use denote.Exit.{yes}
 use denote.Signature.{plain}
-use Rattle.either.specs.Either.{card_answer_of, card_image_after}
+use Rattle.either_card.specs.Either.{card_answer_of, card_image_after}
 use Rattle.session.specs.declared.Session.{Session}
 use Rattle.edition.specs.declared.CardRecord.{CardRecord}
-use Rattle.either.specs.declared.CardAnswer.{CardAnswer}
+use Rattle.either_card.specs.declared.CardAnswer.{CardAnswer}
 use Rattle.session.specs.contracts.Session as S
 use Rattle.session.proofs.Session.TheLaws as S'
 use Rattle.edition.specs.contracts.CardRecord as K
 use Rattle.edition.proofs.CardRecord.TheLaws as K'
-use Rattle.either.specs.contracts.CardAnswer as R
-use Rattle.either.proofs.CardAnswer.TheLaws as R'
-use Rattle.either.specs.contracts.step as step
-use Rattle.either.proofs.step.Symbol as step-def
-use Rattle.either.proofs.step.Symbol.{name as #either·step}
-use Rattle.either.proofs.step.Met as step_thm
+use Rattle.either_card.specs.contracts.CardAnswer as R
+use Rattle.either_card.proofs.CardAnswer.TheLaws as R'
+use Rattle.either_card.specs.contracts.step as step
+use Rattle.either_card.proofs.step.Symbol as step-def
+use Rattle.either_card.proofs.step.Symbol.{name as #either_card·step}
+use Rattle.either_card.proofs.step.Met as step_thm
 use Rattle.board.proofs.Machine.{mach_s, mach_k}
 use Rattle.board.specs.contracts.session_of as of
 use Rattle.board.proofs.session_of.Symbol as of-def
@@ -143,7 +143,7 @@ module _ {M : Type 1} {𝓤 : Ura M} (𝓛 : Logic 𝓤) (at_mem : Memory → SP
       feq_i ! (List Val) (vptr b o ∷ []) (vptr b o ∷ []) refl $ fjoin3 ! $
       nothing ! $ move ! (4 ∷ 0 ∷ []) $ fjoin ! $ move ! (1 ∷ 0 ∷ []) $ fjoin ! $ nothing ! $ fjoin ! $ move ! (2 ∷ 0 ∷ []) $ fjoin ! $ done !
 
-  module _ (C : Calls 𝓤 H) (Λ : Loops 𝓤 H) (fm : FmC 𝓤 H 𝓛.laws C) (known : Triple 𝓤 (C #either·step) (Step 𝓛 at_mem run)) (Known-of : Triple 𝓤 (C #board·session-of) (Of 𝓛 at_mem run)) where
+  module _ (C : Calls 𝓤 H) (Λ : Loops 𝓤 H) (fm : FmC 𝓤 H 𝓛.laws C) (known : Triple 𝓤 (C #either_card·step) (Step 𝓛 at_mem run)) (Known-of : Triple 𝓤 (C #board·session-of) (Of 𝓛 at_mem run)) where
     walk : Is (MutSlice (named 0) κ₀ u8) x (vx ∷ []) → Is K.the_row k (mach_k k ∷ []) → Is (ShrSlice (named 2) κ₂ u8) y (vy ∷ []) → ent 𝓤 (on_entry 𝓛 f.signature (κ₀, (κ₁, (κ₂, tt))) (q₀, (q₁, (q₂, tt))) a vals) (WpFn 𝓤 H C Λ code.function (vx ∷ mach_k k ∷ vptr b o ∷ vy ∷ []) Post)
     walk px pk py =
         qed 𝓛 ((‵ (flft κ₀ q₀) ⊛ ‵ (flft κ₁ q₁) ⊛ ‵ (flft κ₂ q₂) ⊛ ‵ ftrue) ∷ ‵ (owns (MutSlice (named 0) κ₀ u8 ∷ K.the_row ∷ MutRef (named 1) κ₁ S.the_row ∷ ShrSlice (named 2) κ₂ u8 ∷ []) a vals) ∷ []) ∵ enter ! C Λ code.function (vx ∷ mach_k k ∷ vptr b o ∷ vy ∷ []) _ $
@@ -191,14 +191,14 @@ module _ {M : Type 1} {𝓤 : Ura M} (𝓛 : Logic 𝓤) (at_mem : Memory → SP
 module _ {M : Type 1} {𝓤 : Ura M} (𝓛 : Logic 𝓤) (at_mem : Memory → SProp 𝓤) (run : Routine → Fun 𝓤) where
   open 𝓛 use {H}
 
-  card_frame_walks : (C : Calls 𝓤 H) (Λ : Loops 𝓤 H) → FmC 𝓤 H 𝓛.laws C → Triple 𝓤 (C #either·step) (Step 𝓛 at_mem run) → Triple 𝓤 (C #board·session-of) (Of 𝓛 at_mem run) → Walks 𝓛 f.ended stayed (WpFn 𝓤 H C Λ code.function) (f.clauses 𝓛 at_mem run)
+  card_frame_walks : (C : Calls 𝓤 H) (Λ : Loops 𝓤 H) → FmC 𝓤 H 𝓛.laws C → Triple 𝓤 (C #either_card·step) (Step 𝓛 at_mem run) → Triple 𝓤 (C #board·session-of) (Of 𝓛 at_mem run) → Walks 𝓛 f.ended stayed (WpFn 𝓤 H C Λ code.function) (f.clauses 𝓛 at_mem run)
   card_frame_walks C Λ fm known Known-of = walked 𝓛 f.ended stayed (f.clauses 𝓛 at_mem run) (WpFn 𝓤 H C Λ code.function) (λ κs. (mut_slice_vals, (LL.vals K.the_type K'.the_laws, (mut_vals, (shr_slice_vals, tt))))) (λ κs. (mut_slice_Tells (named 0) κs.0 u8, (LL.tells K.the_type K'.the_laws, (mut_Tells (named 1) κs.1.0 S.the_row, (shr_slice_Tells (named 2) κs.1.1.0 u8, tt)))))
       (λ κs qs bounds a g are. via 𝓤 _ (fst∗ 𝓤 _ (emp 𝓤)) (walk 𝓛 at_mem run κs.0 κs.1.0 κs.1.1.0 qs.0 qs.1.0 qs.1.1.0 a.0 a.1.0 a.1.1.0.ref_ptr.0 a.1.1.0.ref_ptr.1 a.1.1.0.ghost_name a.1.1.0.now a.1.1.1.0 C Λ fm known Known-of are.0 are.1.0 are.1.1.1.0))
 
   all_go : AllGo 𝓛 3 (f.signature).params (f.ended).kept stayed
   all_go = (Goes-gave_slice 𝓛 3 0 tt (plain (λ _. u8)), (Goes-dropped 𝓛 3 (plain (λ _. K.the_row)) yes (λ κs x f. refl), (Goes-ref 𝓛 3 1 tt (plain (λ _. S.the_row)), (Goes-none_slice 𝓛 3 (2 ∷ []) tt (plain (λ _. u8)) yes, tt))))
 
-card_frame_meets : {M : Type 1} {𝓤 : Ura M} (𝓛 : Logic 𝓤) → (at_mem : Memory → SProp 𝓤) (run : Routine → Fun 𝓤) (𝓣 : Tables 𝓤 𝓛.H) → Triple 𝓤 (𝓣.C #either·step) (Step 𝓛 at_mem run) → Triple 𝓤 (𝓣.C #board·session-of) (Of 𝓛 at_mem run)
+card_frame_meets : {M : Type 1} {𝓤 : Ura M} (𝓛 : Logic 𝓤) → (at_mem : Memory → SProp 𝓤) (run : Routine → Fun 𝓤) (𝓣 : Tables 𝓤 𝓛.H) → Triple 𝓤 (𝓣.C #either_card·step) (Step 𝓛 at_mem run) → Triple 𝓤 (𝓣.C #board·session-of) (Of 𝓛 at_mem run)
     → Meets 𝓛 f.signature (WpFn 𝓤 𝓛.H 𝓣.C 𝓣.Λ code.function) (f.spec 𝓛 at_mem run)
 card_frame_meets {𝓤 = 𝓤} 𝓛 at_mem run 𝓣 known Known-of = walk_Meets 𝓛 f.ended stayed (all_go 𝓛 at_mem run) (f.clauses 𝓛 at_mem run) (WpFn 𝓤 𝓛.H 𝓣.C 𝓣.Λ code.function) (WpFn-mono 𝓤 𝓛.H 𝓛.laws 𝓣 code.function) (card_frame_walks 𝓛 at_mem run 𝓣.C 𝓣.Λ (fm_of 𝓤 𝓛.H 𝓛.laws 𝓣) known Known-of)
 
@@ -208,5 +208,5 @@ card-frame-spec 𝓤 𝓛 𝓜 𝓡 =
     entered 𝓤 𝓛.H (triple_of 𝓛 f.signature (f.spec 𝓛 𝓜.mem 𝓡.run))
     (tables 𝓤 𝓛.H 𝓜 𝓡 code.env).C (tables 𝓤 𝓛.H 𝓜 𝓡 code.env).Λ #board·card-frame code.function (code.unfolded 𝓤 𝓛.H 𝓜 𝓡)
     (card_frame_meets 𝓛 𝓜.mem 𝓡.run (tables_of 𝓤 𝓛.H 𝓜 (tables 𝓤 𝓛.H 𝓜 𝓡 code.env))
-    (cited 𝓤 𝓛.H (Step 𝓛 𝓜.mem 𝓡.run) 𝓜 𝓡 code.env #either·step step-def.routine code.calls-either::step (step_thm.met 𝓤 𝓛 𝓜 𝓡))
+    (cited 𝓤 𝓛.H (Step 𝓛 𝓜.mem 𝓡.run) 𝓜 𝓡 code.env #either_card·step step-def.routine code.calls-either_card::step (step_thm.met 𝓤 𝓛 𝓜 𝓡))
     (cited 𝓤 𝓛.H (Of 𝓛 𝓜.mem 𝓡.run) 𝓜 𝓡 code.env #board·session-of of-def.routine code.calls-board::session-of (of_thm.met 𝓤 𝓛 𝓜 𝓡)))

@@ -36,20 +36,20 @@ use denote.Triple.Call.{calls_at}
 use denote.Triple.Clauses.{ensured, lasts}
 use denote.Triple.Table.{entered, cited}
 use denote.Triple.Walked.{says, Stays, stay_ref, stay_dropped, walk_of, AllGo, Goes-ref, Goes-dropped, Walks, ends_at, walked, walk_Meets}
-use Rattle.either.specs.Either.{card_reset_of}
+use Rattle.either_card.specs.Either.{card_reset_of}
 use Rattle.session.specs.declared.Session.{Session}
 use Rattle.edition.specs.declared.CardRecord.{CardRecord}
-use Rattle.either.specs.declared.CardAnswer.{CardAnswer}
+use Rattle.either_card.specs.declared.CardAnswer.{CardAnswer}
 use Rattle.session.specs.contracts.Session as S
 use Rattle.session.proofs.Session.TheLaws as S'
 use Rattle.edition.specs.contracts.CardRecord as K
 use Rattle.edition.proofs.CardRecord.TheLaws as K'
-use Rattle.either.specs.contracts.CardAnswer as R
-use Rattle.either.proofs.CardAnswer.TheLaws as R'
-use Rattle.either.specs.contracts.field_reset as reset
-use Rattle.either.proofs.field_reset.Symbol as reset-def
-use Rattle.either.proofs.field_reset.Symbol.{name as #either·field-reset}
-use Rattle.either.proofs.field_reset.Met as reset-thm
+use Rattle.either_card.specs.contracts.CardAnswer as R
+use Rattle.either_card.proofs.CardAnswer.TheLaws as R'
+use Rattle.either_card.specs.contracts.field_reset as reset
+use Rattle.either_card.proofs.field_reset.Symbol as reset-def
+use Rattle.either_card.proofs.field_reset.Symbol.{name as #either_card·field-reset}
+use Rattle.either_card.proofs.field_reset.Met as reset-thm
 use Rattle.board.proofs.Machine.{mach_k}
 use Rattle.board.specs.contracts.session_of as of
 use Rattle.board.proofs.session_of.Symbol as of-def
@@ -110,7 +110,7 @@ module _ {M : Type 1} {𝓤 : Ura M} (𝓛 : Logic 𝓤) (at_mem : Memory → SP
       suffices ! _ (ends_at 𝓛 f.ended stayed (f.clauses 𝓛 at_mem run) (((κ, tt), (q, tt), tt, x, at), tt) u r (tt, (t, tt)) (tt, (tt, tt))) $ says ! (e, e' ∙ ap (λ (z : CardAnswer). z.answer.session) e) $
       nothing ! $ move ! (3 ∷ 0 ∷ []) $ join ! $ frame ! $ feq_i ! (List Val) (vptr b o ∷ []) (vptr b o ∷ []) refl $ fjoin3 ! $ nothing ! $ move ! (1 ∷ 0 ∷ []) $ fjoin ! $ nothing ! $ fjoin ! $ done !
 
-  module _ (C : Calls 𝓤 H) (Λ : Loops 𝓤 H) (fm : FmC 𝓤 H 𝓛.laws C) (known : Triple 𝓤 (C #either·field-reset) (Reset 𝓛 at_mem run)) (Known-of : Triple 𝓤 (C #board·session-of) (Of 𝓛 at_mem run)) where
+  module _ (C : Calls 𝓤 H) (Λ : Loops 𝓤 H) (fm : FmC 𝓤 H 𝓛.laws C) (known : Triple 𝓤 (C #either_card·field-reset) (Reset 𝓛 at_mem run)) (Known-of : Triple 𝓤 (C #board·session-of) (Of 𝓛 at_mem run)) where
     walk : Is K.the_row k (mach_k k ∷ []) → ent 𝓤 (on_entry 𝓛 f.signature (κ, tt) (q, tt) x at) (WpFn 𝓤 H C Λ code.function (mach_k k ∷ vptr b o ∷ []) Post)
     walk pk =
         qed 𝓛 ((‵ (flft κ q) ⊛ ‵ ftrue) ∷ ‵ (owns (K.the_row ∷ MutRef (named 0) κ S.the_row ∷ []) x at) ∷ []) ∵ enter ! C Λ code.function (mach_k k ∷ vptr b o ∷ []) _ $
@@ -146,14 +146,14 @@ module _ {M : Type 1} {𝓤 : Ura M} (𝓛 : Logic 𝓤) (at_mem : Memory → SP
 module _ {M : Type 1} {𝓤 : Ura M} (𝓛 : Logic 𝓤) (at_mem : Memory → SProp 𝓤) (run : Routine → Fun 𝓤) where
   open 𝓛 use {H}
 
-  reset_walks : (C : Calls 𝓤 H) (Λ : Loops 𝓤 H) → FmC 𝓤 H 𝓛.laws C → Triple 𝓤 (C #either·field-reset) (Reset 𝓛 at_mem run) → Triple 𝓤 (C #board·session-of) (Of 𝓛 at_mem run) → Walks 𝓛 f.ended stayed (WpFn 𝓤 H C Λ code.function) (f.clauses 𝓛 at_mem run)
+  reset_walks : (C : Calls 𝓤 H) (Λ : Loops 𝓤 H) → FmC 𝓤 H 𝓛.laws C → Triple 𝓤 (C #either_card·field-reset) (Reset 𝓛 at_mem run) → Triple 𝓤 (C #board·session-of) (Of 𝓛 at_mem run) → Walks 𝓛 f.ended stayed (WpFn 𝓤 H C Λ code.function) (f.clauses 𝓛 at_mem run)
   reset_walks C Λ fm known Known-of = walked 𝓛 f.ended stayed (f.clauses 𝓛 at_mem run) (WpFn 𝓤 H C Λ code.function) (λ κs. (LL.vals K.the_type K'.the_laws, (mut_vals, tt))) (λ κs. (LL.tells K.the_type K'.the_laws, (mut_Tells (named 0) κs.0 S.the_row, tt)))
       (λ κs qs bounds a g are. via 𝓤 _ (fst∗ 𝓤 _ (emp 𝓤)) (walk 𝓛 at_mem run κs.0 qs.0 a.0 a.1.0.ref_ptr.0 a.1.0.ref_ptr.1 a.1.0.ghost_name a.1.0.now C Λ fm known Known-of are.0))
 
   all_go : AllGo 𝓛 1 (f.signature).params (f.ended).kept stayed
   all_go = (Goes-dropped 𝓛 1 (plain (λ _. K.the_row)) yes (λ κs x f. refl), (Goes-ref 𝓛 1 0 tt (plain (λ _. S.the_row)), tt))
 
-reset_meets : {M : Type 1} {𝓤 : Ura M} (𝓛 : Logic 𝓤) → (at_mem : Memory → SProp 𝓤) (run : Routine → Fun 𝓤) (𝓣 : Tables 𝓤 𝓛.H) → Triple 𝓤 (𝓣.C #either·field-reset) (Reset 𝓛 at_mem run) → Triple 𝓤 (𝓣.C #board·session-of) (Of 𝓛 at_mem run)
+reset_meets : {M : Type 1} {𝓤 : Ura M} (𝓛 : Logic 𝓤) → (at_mem : Memory → SProp 𝓤) (run : Routine → Fun 𝓤) (𝓣 : Tables 𝓤 𝓛.H) → Triple 𝓤 (𝓣.C #either_card·field-reset) (Reset 𝓛 at_mem run) → Triple 𝓤 (𝓣.C #board·session-of) (Of 𝓛 at_mem run)
     → Meets 𝓛 f.signature (WpFn 𝓤 𝓛.H 𝓣.C 𝓣.Λ code.function) (f.spec 𝓛 at_mem run)
 reset_meets {𝓤 = 𝓤} 𝓛 at_mem run 𝓣 known Known-of = walk_Meets 𝓛 f.ended stayed (all_go 𝓛 at_mem run) (f.clauses 𝓛 at_mem run) (WpFn 𝓤 𝓛.H 𝓣.C 𝓣.Λ code.function) (WpFn-mono 𝓤 𝓛.H 𝓛.laws 𝓣 code.function) (reset_walks 𝓛 at_mem run 𝓣.C 𝓣.Λ (fm_of 𝓤 𝓛.H 𝓛.laws 𝓣) known Known-of)
 
@@ -163,5 +163,5 @@ card-reset-spec 𝓤 𝓛 𝓜 𝓡 =
     entered 𝓤 𝓛.H (triple_of 𝓛 f.signature (f.spec 𝓛 𝓜.mem 𝓡.run))
     (tables 𝓤 𝓛.H 𝓜 𝓡 code.env).C (tables 𝓤 𝓛.H 𝓜 𝓡 code.env).Λ #board·card-reset code.function (code.unfolded 𝓤 𝓛.H 𝓜 𝓡)
     (reset_meets 𝓛 𝓜.mem 𝓡.run (tables_of 𝓤 𝓛.H 𝓜 (tables 𝓤 𝓛.H 𝓜 𝓡 code.env))
-    (cited 𝓤 𝓛.H (Reset 𝓛 𝓜.mem 𝓡.run) 𝓜 𝓡 code.env #either·field-reset reset-def.routine code.calls-either::field-reset (reset-thm.met 𝓤 𝓛 𝓜 𝓡))
+    (cited 𝓤 𝓛.H (Reset 𝓛 𝓜.mem 𝓡.run) 𝓜 𝓡 code.env #either_card·field-reset reset-def.routine code.calls-either_card::field-reset (reset-thm.met 𝓤 𝓛 𝓜 𝓡))
     (cited 𝓤 𝓛.H (Of 𝓛 𝓜.mem 𝓡.run) 𝓜 𝓡 code.env #board·session-of of-def.routine code.calls-board::session-of (of_thm.met 𝓤 𝓛 𝓜 𝓡)))

@@ -4,14 +4,14 @@ use Rattle.session.specs.Session.{coherent_of}
 use Rattle.judge.specs.Checks.{incoherent}
 use Rattle.record.specs.Record.{stray_of}
 use Rattle.record.proofs.Laws.{session_found, session_missing}
-use Rattle.either.proofs.Stray.{no_session_sealed}
+use Rattle.either_card.proofs.Stray.{no_session_sealed}
 use borrow.Author.Rules.{rules}
 use Rattle.cardchip.proofs.answer.Statement.{statement}
 use Rattle.cardchip.proofs.answer.Tie as tie
 use Rattle.cardchip.proofs.answer.Reads as reads
 use Rattle.cardchip.proofs.answer.Lts as lts
-use Rattle.either.proofs.sealed_no_session.Reads as sealed-no-session-reads
-use Rattle.either.proofs.sealed_step.Reads as sealed-step-reads
+use Rattle.either_card.proofs.sealed_no_session.Reads as sealed-no-session-reads
+use Rattle.either_card.proofs.sealed_step.Reads as sealed-step-reads
 use Rattle.record.proofs.decode.Reads as decode-reads
 
 decode-requires : tie.Need-decode-requires

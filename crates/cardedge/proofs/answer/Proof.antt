@@ -4,14 +4,14 @@ use Rattle.session.specs.Session.{coherent_of}
 use Rattle.judge.specs.Checks.{incoherent}
 use Rattle.record.specs.Record.{stray_of}
 use Rattle.record.proofs.Laws.{session_found, session_missing}
-use Rattle.either.proofs.Stray.{no_session_bare}
+use Rattle.either_card.proofs.Stray.{no_session_bare}
 use borrow.Author.Rules.{rules}
 use Rattle.cardedge.proofs.answer.Statement.{statement}
 use Rattle.cardedge.proofs.answer.Tie as tie
 use Rattle.cardedge.proofs.answer.Reads as reads
 use Rattle.cardedge.proofs.answer.Lts as lts
-use Rattle.either.proofs.no_session.Reads as no-session-reads
-use Rattle.either.proofs.step.Reads as step-reads
+use Rattle.either_card.proofs.no_session.Reads as no-session-reads
+use Rattle.either_card.proofs.step.Reads as step-reads
 use Rattle.record.proofs.decode.Reads as decode-reads
 
 decode-requires : tie.Need-decode-requires

@@ -4,7 +4,7 @@ use Rattle.kept.proofs.no_session.Statement.{statement}
 use Rattle.kept.proofs.no_session.Tie as tie
 use Rattle.kept.proofs.no_session.Reads as reads
 use Rattle.kept.proofs.no_session.Lts as lts
-use Rattle.either.proofs.no_session.Reads as no-session-reads
+use Rattle.either_card.proofs.no_session.Reads as no-session-reads
 
 no-session-requires : tie.Need-no-session-requires
 no-session-requires c κs = search rules

@@ -7,8 +7,8 @@ use Rattle.kept.proofs.step.Statement.{statement}
 use Rattle.kept.proofs.step.Tie as tie
 use Rattle.kept.proofs.step.Reads as reads
 use Rattle.kept.proofs.step.Lts as lts
-use Rattle.either.proofs.enact.Reads as enact-reads
-use Rattle.either.proofs.judge.Reads as judge-reads
+use Rattle.either_card.proofs.enact.Reads as enact-reads
+use Rattle.either_card.proofs.judge.Reads as judge-reads
 use Rattle.kept.proofs.early_refusal.Reads as early-refusal-reads
 use Rattle.kept.proofs.settle.figures_by.Reads as figures-by-reads
 use Rattle.kept.proofs.settle.lastly.Reads as lastly-reads

@@ -5,7 +5,7 @@ use Rattle.kept.proofs.sealing.refused.Statement.{statement}
 use Rattle.kept.proofs.sealing.refused.Tie as tie
 use Rattle.kept.proofs.sealing.refused.Reads as reads
 use Rattle.kept.proofs.sealing.refused.Lts as lts
-use Rattle.either.proofs.refusal.Reads as refusal-reads
+use Rattle.either_card.proofs.refusal.Reads as refusal-reads
 
 refusal-requires : tie.Need-refusal-requires
 refusal-requires c κs = search rules

@@ -5,7 +5,7 @@ use Rattle.kept.proofs.sealing.sealed_kept.Statement.{statement}
 use Rattle.kept.proofs.sealing.sealed_kept.Tie as tie
 use Rattle.kept.proofs.sealing.sealed_kept.Reads as reads
 use Rattle.kept.proofs.sealing.sealed_kept.Lts as lts
-use Rattle.either.proofs.sealed_card.Reads as sealed-card-reads
+use Rattle.either_card.proofs.sealed_card.Reads as sealed-card-reads
 
 sealed-card-requires : tie.Need-sealed-card-requires
 sealed-card-requires c κs = search rules

@@ -1,0 +1,9 @@
+-- A byte, or nothing.
+use mathlib.Core.Path.{sym}
+use lib.ListN.{get_or-eq_default}
+use borrow.Author.Rules.{rules}
+use Rattle.script.proofs.lock.byte.Reads as reads
+use Rattle.script.proofs.lock.byte.Goals as goal
+
+pub returns : goal.returns
+returns c = sym (get_or-eq_default c.args.script.now 0 c.if-at-script.false)

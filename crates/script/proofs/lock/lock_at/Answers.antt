@@ -1,0 +1,16 @@
+-- Past the end, or by its bytes.
+use mathlib.Core.Path.{◌∙◌}
+use Rattle.script.specs.Lock.{lock_at}
+use Rattle.script.proofs.Locks.{nothing_there}
+use borrow.Author.Rules.{rules}
+use Rattle.script.proofs.lock.lock_at.Reads as reads
+use Rattle.edition.proofs.choice_by.Reads as choice-by-reads
+use Rattle.script.proofs.lock.byte.Reads as byte-Reads
+use Rattle.script.proofs.lock.lock_at.Goals as goal
+
+pub returns-then-script-at : goal.returns-then-script-at
+returns-then-script-at c = nothing_there _ _ c.if-script-at.true
+
+pub returns : goal.returns
+unfolding lock_at
+returns c = c.choice_by.ensures ∙ rw (c.byte-2.ensures, c.byte.ensures)

@@ -1,0 +1,8 @@
+-- Only the reply is another.
+use Rattle.sealed.specs.Sealed.{sealed_of}
+use borrow.Author.Rules.{rules}
+use Rattle.sealed.proofs.sealed.Goals as goal
+
+pub returns : goal.returns
+unfolding sealed_of
+returns c = rw c.reply_of-reply.ensures
