@@ -56,19 +56,20 @@ use Rattle.kept.specs.Code.{refused_kept, after12}
 use Rattle.kept.specs.declared.KeptAnswer.{KeptAnswer}
 
 -- of the acts only two bring new content
-pub others : (image : List ℕ) (f : Figures) (act : Act) (frame : List ℕ) → OneOf (0 ∷ 1 ∷ 2 ∷ 3 ∷ 4 ∷ 5 ∷ 7 ∷ 8 ∷ 10 ∷ []) (tag_of the_type act) → Kept f ≡ settled_by image f act frame
+pub others : (image : List ℕ) (f : Figures) (act : Act) (frame : List ℕ)
+    → ((b : Block) → act ≡ Stored b → ⊥) → ((b : Block) (v a : ℕ) → act ≡ Moved b v a → ⊥) → Kept f ≡ settled_by image f act frame
 unfolding settled_by
-others image f (Refused n) frame h = refl
-others image f (Authenticated t l) frame h = refl
-others image f (Shown b) frame h = refl
-others image f (TrailerShown b m) frame h = refl
-others image f (WriteWaits b) frame h = refl
-others image f (ValueWaits b k) frame h = refl
-others image f (Stored b) frame h = absurd (miss (0 ∷ 1 ∷ 2 ∷ 3 ∷ 4 ∷ 5 ∷ 7 ∷ 8 ∷ 10 ∷ []) 6 tt h)
-others image f (TrailerStored b m) frame h = refl
-others image f (Loaded v a) frame h = refl
-others image f (Moved b v a) frame h = absurd (miss (0 ∷ 1 ∷ 2 ∷ 3 ∷ 4 ∷ 5 ∷ 7 ∷ 8 ∷ 10 ∷ []) 9 tt h)
-others image f Halted frame h = refl
+others image f (Refused n) frame h j = refl
+others image f (Authenticated t l) frame h j = refl
+others image f (Shown b) frame h j = refl
+others image f (TrailerShown b m) frame h j = refl
+others image f (WriteWaits b) frame h j = refl
+others image f (ValueWaits b k) frame h j = refl
+others image f (Stored b) frame h j = absurd (h b refl)
+others image f (TrailerStored b m) frame h j = refl
+others image f (Loaded v a) frame h j = refl
+others image f (Moved b v a) frame h j = absurd (j b v a refl)
+others image f Halted frame h j = refl
 
 -- in its parts only a trailer is stored
 abbrev pub Trailing : Act → Type 0
