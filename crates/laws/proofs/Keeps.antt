@@ -114,7 +114,7 @@ module _ {X : Type 0} (note : X → State → List ℕ → Act → X) (test : X 
     keeps x st [] h p = p
     keeps x st (e ∷ es) h p =
         let t = both_true (test x st (frame_in e) (act_of st e)) _ h in
-        keeps _ (after st e) es t.1 (rw (after_acts st e) (step x _ st (frame_in e) (act_of st e) (behind st e) t.0 p))
+        keeps (note x st (frame_in e) (act_of st e)) (after st e) es t.1 (rw (after_acts st e) (step x _ st (frame_in e) (act_of st e) (behind st e) t.0 p))
 
   -- of two states that get the same events: a relation under which they have one record, are as long and in the same session; a frame that passes the test does the same to
   -- both, a Read of block 0 among them, and is answered alike; and what it does keeps the relation
@@ -177,7 +177,7 @@ module _ {X : Type 0} (note : X → State → List ℕ → Act → X) (test : X 
         let told = same_answer x a b r e act in
         let next : R (note x a (frame_in e) (act_of a e)) (after a e) (after b e) =
         rw (after_acts a e, after_acts b e, act, told) (step x _ a b (frame_in e) (act_of a e) r (behind a e) (rw act at (behind b e)) t.0) in
-        let later = keeps_both _ (after a e) (after b e) es t.1 next in
+        let later = keeps_both (note x a (frame_in e) (act_of a e)) (after a e) (after b e) es t.1 next in
         (later.0, rw (told, later.1))
 
 -- two watchers as one: each notes what he would note alone, and both tests are passed together
@@ -188,7 +188,7 @@ module _ {X Y : Type 0} (f : X → State → List ℕ → Act → X) (g : Y → 
   pub beside_noted : (x : X) (y : Y) (st : State) (events : List Sent) → noted beside (x, y) st events ≡ (noted f x st events, noted g y st events)
   unfolding noted
   beside_noted x y st [] = refl
-  beside_noted x y st (e ∷ es) = beside_noted _ _ (after st e) es
+  beside_noted x y st (e ∷ es) = beside_noted (f x st (frame_in e) (act_of st e)) (g y st (frame_in e) (act_of st e)) (after st e) es
 
   module _ (t : X → State → List ℕ → Act → Bool) (u : Y → State → List ℕ → Act → Bool) where
     abbrev pub both : X × Y → State → List ℕ → Act → Bool
@@ -200,10 +200,10 @@ module _ {X Y : Type 0} (f : X → State → List ℕ → Act → X) (g : Y → 
     beside_always x y st (e ∷ es) h k =
         let p = both_true (t x st (frame_in e) (act_of st e)) _ h in
         let q = both_true (u y st (frame_in e) (act_of st e)) _ k in
-        rw (p.0, q.0) (beside_always _ _ (after st e) es p.1 q.1)
+        rw (p.0, q.0) (beside_always (f x st (frame_in e) (act_of st e)) (g y st (frame_in e) (act_of st e)) (after st e) es p.1 q.1)
 
 -- a watcher who lets everything pass
 pub unasked : {X : Type 0} (f : X → State → List ℕ → Act → X) (x : X) (st : State) (events : List Sent) → always f (λ x st frame act. true) x st events ≡ true
 unfolding always
 unasked f x st [] = refl
-unasked f x st (e ∷ es) = unasked f _ (after st e) es
+unasked f x st (e ∷ es) = unasked f (f x st (frame_in e) (act_of st e)) (after st e) es

@@ -1,0 +1,17 @@
+-- The tests in their order.
+use borrow.Author.Tests.{lt-ltb, le-ltb, eq-eqb, ne_eqb}
+use Rattle.reader.specs.Reader.{found_at}
+use borrow.Author.Rules.{rules}
+use Rattle.reader.proofs.found_at.Goals as goal
+
+pub returns-then-script-at : goal.returns-then-script-at
+unfolding found_at
+returns-then-script-at c = rw (le-ltb _ _ c.if-script-at.true)
+
+pub returns-then-refusal-ne0 : goal.returns-then-refusal-ne0
+unfolding found_at
+returns-then-refusal-ne0 c = rw (lt-ltb _ _ c.if-script-at.false, ← c.event_refusal-refusal.ensures, ne_eqb _ _ c.if-refusal-ne0.true)
+
+pub returns : goal.returns
+unfolding found_at
+returns c = rw (lt-ltb _ _ c.if-script-at.false, ← c.event_refusal-refusal.ensures, eq-eqb _ _ c.if-refusal-ne0.false, c.wide-count.ensures)

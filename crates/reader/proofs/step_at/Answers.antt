@@ -1,0 +1,6 @@
+-- What was found, and the next place.
+use borrow.Author.Rules.{rules}
+use Rattle.reader.proofs.step_at.Goals as goal
+
+pub returns : goal.returns
+returns c = rw (c.next_at-next.ensures, c.found_at-found.ensures)
