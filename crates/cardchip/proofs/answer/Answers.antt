@@ -1,0 +1,18 @@
+-- The session that was found, or none.
+use mathlib.Core.Path.{refl, sym, ◌∙◌}
+use Rattle.session.specs.Session.{coherent_of}
+use Rattle.judge.specs.Checks.{incoherent}
+use Rattle.record.specs.Record.{stray_of}
+use Rattle.record.proofs.Laws.{session_found, session_missing}
+use Rattle.either_card.proofs.Stray.{no_session_sealed}
+use borrow.Author.Rules.{rules}
+use Rattle.cardchip.proofs.answer.Goals as goal
+
+pub returns-in-Session : goal.returns-in-Session
+returns-in-Session c = let e = session_found _ _ (sym c.decode.ensures ∙ c.in-Session.is) in rw e c.sealed_step.ensures
+
+pub returns-in-Nothing : goal.returns-in-Nothing
+unfolding incoherent coherent_of
+returns-in-Nothing c = let args = c.args in
+    let law = no_session_sealed args.image.now args.k stray_of refl args.frame.now in
+    rw (session_missing _ (sym c.decode.ensures ∙ c.in-Nothing.is)) (record { value = c.sealed_no_session.ensures ∙ sym law.0; image_after = sym law.1 })
