@@ -46,6 +46,7 @@ module _ (f : Form) (card : CardRecord) where
       go g b (lawful events) z = absurd (h z)
       go Results eighteen (refused m) z = (q, (refl, (refl, (refl, sym (put_nothing results 0)))))
       go CardResults nineteen (refused m) z = (q, (refl, (refl, (refl, sym (put_nothing results 0)))))
+      go (Lines _) b (refused m) z = elim b [ ]
 
   module _ (script : List ℕ) (h : refusal_in (reading_for card.edition script) ≡ 0) (count start : ℕ) (ec : count ≡ event_count script) (es : start ≡ events_start script) where
     -- all results have room

@@ -1,0 +1,10 @@
+use Prim.Native.Nat.{◌-◌}
+use native.Mathlib.Omega.{arith}
+use Rattle.play.proofs.Changing.{Changing, start, line_room, turn, end_lines}
+use Rattle.play.proofs.changes.put_changes.Given as goal
+
+abbrev pub invariant-loop-b : goal.invariant-loop-b
+invariant-loop-b l = Changing l.old l.new l.initial.out l.at l.count l.out l.to l.b
+
+abbrev pub decreases-loop-b : goal.decreases-loop-b
+decreases-loop-b l = l.count - l.b
