@@ -7,7 +7,8 @@ use Prim.Native.Nat.{ℕ, ◌<◌}
 use native.Mathlib.Omega.{arith}
 use base.Fml.{Lft}
 use lib.ListN.{replicate}
-use denote.Ref.{Bor}
+use denote.Bor.{Bor}
+use denote.Ref.{MutBor}
 use Rattle.memory.specs.Memory.{content_of}
 use Rattle.value.specs.Block.{decode_of, agreeing, bits_in, address_in}
 use Rattle.value.specs.declared.block.Decoded.TheVariants.{Value}
@@ -131,7 +132,7 @@ abbrev gave : ℕ → List ℕ → List ℕ → List ℕ → Given
 gave r i s p = record { result = r; reply = p; left = record { image = i; bytes = s } }
 
 -- each exported call gives what is owed, for any image, any twelve bytes and any frame
-module _ (κ₀ κ₁ κ₂ κ₃ : Lft) (image session frame reply : Bor (List ℕ)) (r : ℕ) (i s p : List ℕ) where
+module _ (κ₀ κ₁ κ₂ κ₃ : Lft) (image session : MutBor (List ℕ)) (frame : Bor (List ℕ)) (reply : MutBor (List ℕ)) (r : ℕ) (i s p : List ℕ) where
   pub frame_owed : FrameMeets κ₀ κ₁ κ₂ κ₃ image session frame reply r i s p → gave r i s p ≡ given (record { image = image.now; bytes = session.now }) (bare frame.now)
   unfolding answer_to image_upon
   frame_owed m = let o = old_card_lem image.now old_card (session_from session.now) frame.now refl in rw (o.0, o.1, m.0, m.1.0, m.1.1.0, m.1.1.1)
@@ -142,19 +143,19 @@ module _ (κ₀ κ₁ κ₂ κ₃ : Lft) (image session frame reply : Bor (List 
   sealed_frame_owed m = let o = old_sealed image.now old_card (session_from session.now) frame.now refl in rw (o.0, o.1, m.0, m.1.0, m.1.1.0, m.1.1.1)
 
 -- a field reset is told no image, and leaves it
-pub reset_owed : (κ₀ κ₁ : Lft) (image : List ℕ) (session reply : Bor (List ℕ)) (r : ℕ) (s p : List ℕ) → ResetMeets κ₀ κ₁ session reply r s p
+pub reset_owed : (κ₀ κ₁ : Lft) (image : List ℕ) (session reply : MutBor (List ℕ)) (r : ℕ) (s p : List ℕ) → ResetMeets κ₀ κ₁ session reply r s p
     → gave r image s p ≡ given (record { image = image; bytes = session.now }) reset
 unfolding answer_to image_upon
 reset_owed κ₀ κ₁ image session reply r s p m = rw (m.0, m.1.0, m.1.1)
 
 -- and the player's call prints the run of a lawful script's events on its image
-pub play_prints : (κ₀ κ₁ : Lft) (script printout : Bor (List ℕ)) (r : ℕ) (last : List ℕ) (events : List (List ℕ)) → PlayMeets κ₀ κ₁ script printout r last
+pub play_prints : (κ₀ κ₁ : Lft) (script : Bor (List ℕ)) (printout : MutBor (List ℕ)) (r : ℕ) (last : List ℕ) (events : List (List ℕ)) → PlayMeets κ₀ κ₁ script printout r last
     → reading_of script.now ≡ lawful events → last ≡ put_of printout.now 0 (played_of old_card script.now (map sent_of events))
 unfolding printout_of printed events_in
 play_prints κ₀ κ₁ script printout r last events m e = m.1 ∙ ap (λ (w : Reading). put_of printout.now 0 (printed old_card script.now w)) e
 
 -- an EV1's call prints the run of its script's events, on the card that the script names
-pub play_ev1_prints : (κ₀ κ₁ : Lft) (script printout : Bor (List ℕ)) (r : ℕ) (last : List ℕ) (events : List (List ℕ)) → PlayEv1Meets κ₀ κ₁ script printout r last
+pub play_ev1_prints : (κ₀ κ₁ : Lft) (script : Bor (List ℕ)) (printout : MutBor (List ℕ)) (r : ℕ) (last : List ℕ) (events : List (List ℕ)) → PlayEv1Meets κ₀ κ₁ script printout r last
     → ev1_reading_of script.now ≡ lawful events → last ≡ put_of printout.now 0 (played_of (ev1_card_of script.now) script.now (map sent_of events))
 unfolding ev1_printout_of printed events_in
 play_ev1_prints κ₀ κ₁ script printout r last events m e = m.1 ∙ ap (λ (w : Reading). put_of printout.now 0 (printed (ev1_card_of script.now) script.now w)) e

@@ -6,7 +6,8 @@ use Prim.Native.Nat.{ℕ}
 use native.Mathlib.Omega.{arith}
 use base.Fml.{Lft}
 use lib.ListN.{length, replicate}
-use denote.Ref.{Bor}
+use denote.Bor.{Bor}
+use denote.Ref.{MutBor}
 use Rattle.session.specs.Session.{fresh_of}
 use Rattle.session.specs.declared.Session.{Session}
 use Rattle.card.specs.Effects.{refused_sign}
@@ -82,7 +83,7 @@ module _ (image card session frame : List ℕ) where
   sealed_owed found.Nothing = rw zeros_are_fresh.1
 
 -- each exported call gives what is owed, for any image, any four and twelve bytes and any frame
-module _ (κ₀ κ₁ κ₂ κ₃ κ₄ : Lft) (image card session frame reply : Bor (List ℕ)) (r : ℕ) (i c s p : List ℕ) where
+module _ (κ₀ κ₁ κ₂ κ₃ κ₄ : Lft) (image card session : MutBor (List ℕ)) (frame : Bor (List ℕ)) (reply : MutBor (List ℕ)) (r : ℕ) (i c s p : List ℕ) where
   pub card_frame_owed : CardFrameMeets κ₀ κ₁ κ₂ κ₃ κ₄ image card session frame reply r i c s p
       → gave r i c s p ≡ card_given (record { image = image.now; card = card.now; bytes = session.now }) (bare frame.now)
   unfolding card_frame_of card_frame_image
@@ -94,7 +95,7 @@ module _ (κ₀ κ₁ κ₂ κ₃ κ₄ : Lft) (image card session frame reply :
   card_sealed_owed m = rw (m.0, m.1.0, m.1.1.0, m.1.1.1.0, m.1.1.1.1) (sealed_owed image.now card.now session.now frame.now (found_in card.now))
 
 -- a field reset is told no image, and leaves the four bytes as they are
-pub card_reset_owed : (κ₀ κ₁ κ₂ : Lft) (image : List ℕ) (card session reply : Bor (List ℕ)) (r : ℕ) (s p : List ℕ) → length card.now ≡ 4
+pub card_reset_owed : (κ₀ κ₁ κ₂ : Lft) (image : List ℕ) (card : Bor (List ℕ)) (session reply : MutBor (List ℕ)) (r : ℕ) (s p : List ℕ) → length card.now ≡ 4
     → CardResetMeets κ₀ κ₁ κ₂ card session reply r s p → gave r image card.now s p ≡ card_given (record { image = image; card = card.now; bytes = session.now }) reset
 unfolding answer_to image_upon
 card_reset_owed κ₀ κ₁ κ₂ image card session reply r s p four m = rw (m.0, m.1.0, m.1.1) (go (found_in card.now) refl)

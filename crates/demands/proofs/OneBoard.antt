@@ -11,7 +11,8 @@ use prog.Memory.{Memory}
 use prog.Routine.{Routine}
 use types.Logic.{Logic}
 use contract.Monad.{Fun, fact}
-use denote.Ref.{Bor}
+use denote.Bor.{Bor}
+use denote.Ref.{MutBor}
 use denote.Triple.Clauses.{at_exit}
 use Rattle.session.specs.declared.Session.{Session}
 use Rattle.card.specs.Step.{answer_of, image_after, reset_of}
@@ -24,7 +25,7 @@ use Rattle.board.specs.contracts.field_reset as reset-contract
 use Rattle.board.specs.contracts.card_frame as card-frame-contract
 use Rattle.board.specs.contracts.card_reset as card-reset-contract
 
-module _ (image : Bor (List ℕ)) (session : Bor Session) (sent : Bor (List ℕ)) where
+module _ (image : MutBor (List ℕ)) (session : MutBor Session) (sent : Bor (List ℕ)) where
   abbrev pub FrameSaid : Answer → Session → List ℕ → Type 0
   FrameSaid r s last =
       (r ≡ answer_of image.now session.now sent.now) × (s ≡ (answer_of image.now session.now sent.now).session)
@@ -39,7 +40,7 @@ module _ (image : Bor (List ℕ)) (session : Bor Session) (sent : Bor (List ℕ)
   pub frame : (r r' : Answer) (s s' : Session) (last last' : List ℕ) → FrameSaid r s last → FrameSaid r' s' last' → (r ≡ r') × (s ≡ s') × (last ≡ last')
   frame r r' s s' last last' p q = (p.0 ∙ sym q.0, p.1 ∙ sym q.1, p.2 ∙ sym q.2)
 
-module _ (session : Bor Session) where
+module _ (session : MutBor Session) where
   abbrev pub ResetSaid : Answer → Session → Type 0
   ResetSaid r s = (r ≡ reset_of) × (s ≡ reset_of.session)
 
@@ -53,7 +54,7 @@ module _ (session : Bor Session) where
   field_reset_lem r r' s s' p q = (p.0 ∙ sym q.0, p.1 ∙ sym q.1)
 
 -- a card with its record, which comes back in the answer
-module _ (image : Bor (List ℕ)) (card : CardRecord) (session : Bor Session) (sent : Bor (List ℕ)) where
+module _ (image : MutBor (List ℕ)) (card : CardRecord) (session : MutBor Session) (sent : Bor (List ℕ)) where
   abbrev pub CardFrameSaid : CardAnswer → Session → List ℕ → Type 0
   CardFrameSaid r s last =
       (r ≡ card_answer_of image.now card session.now sent.now) × (s ≡ (card_answer_of image.now card session.now sent.now).answer.session)
@@ -68,7 +69,7 @@ module _ (image : Bor (List ℕ)) (card : CardRecord) (session : Bor Session) (s
   pub card_frame_lem : (r r' : CardAnswer) (s s' : Session) (last last' : List ℕ) → CardFrameSaid r s last → CardFrameSaid r' s' last' → (r ≡ r') × (s ≡ s') × (last ≡ last')
   card_frame_lem r r' s s' last last' p q = (p.0 ∙ sym q.0, p.1 ∙ sym q.1, p.2 ∙ sym q.2)
 
-module _ (card : CardRecord) (session : Bor Session) where
+module _ (card : CardRecord) (session : MutBor Session) where
   abbrev pub CardResetSaid : CardAnswer → Session → Type 0
   CardResetSaid r s = (r ≡ card_reset_of card) × (s ≡ (card_reset_of card).answer.session)
 

@@ -4,6 +4,7 @@ use mathlib.Core.Path.{◌≡◌, sym, ◌∙◌}
 use mathlib.Core.List.{List}
 use Prim.Native.Nat.{ℕ}
 use base.Fml.{Lft}
+use denote.Bor.{Bor}
 use denote.Ref.{MutBor, at_last}
 use Rattle.session.specs.declared.Session.{Session}
 use Rattle.card.specs.declared.Sign.{Sign}
@@ -20,18 +21,18 @@ use Rattle.demands.specs.One.{OneResult}
 use Rattle.demands.proofs.Exact.{exact}
 
 -- an answer, and the image behind the reference afterwards
-abbrev Meets : Lft → Lft → MutBor (List ℕ) → Session → MutBor (List ℕ) → Answer → List ℕ → Type 0
+abbrev Meets : Lft → Lft → MutBor (List ℕ) → Session → Bor (List ℕ) → Answer → List ℕ → Type 0
 Meets κ κ' image s frame r last = step-contract.Post (κ, (κ', tt)) (image, (s, (frame, tt))) r (at_last image last, (s, (frame, tt)))
 
-pub step : (κ κ' : Lft) (image : MutBor (List ℕ)) (s : Session) (frame : MutBor (List ℕ)) (r r' : Answer) (last last' : List ℕ)
+pub step : (κ κ' : Lft) (image : MutBor (List ℕ)) (s : Session) (frame : Bor (List ℕ)) (r r' : Answer) (last last' : List ℕ)
     → Meets κ κ' image s frame r last → Meets κ κ' image s frame r' last' → (r ≡ r') × (last ≡ last')
 step κ κ' image s frame r r' last last' p q = (p.0 ∙ sym q.0, p.1 ∙ sym q.1)
 
 -- the same for an act
-abbrev Enacted : Lft → Lft → MutBor (List ℕ) → Session → Act → MutBor (List ℕ) → Answer → List ℕ → Type 0
+abbrev Enacted : Lft → Lft → MutBor (List ℕ) → Session → Act → Bor (List ℕ) → Answer → List ℕ → Type 0
 Enacted κ κ' image s act frame r last = enact-contract.Post (κ, (κ', tt)) (image, (s, (act, (frame, tt)))) r (at_last image last, (s, (act, (frame, tt))))
 
-pub enact : (κ κ' : Lft) (image : MutBor (List ℕ)) (s : Session) (act : Act) (frame : MutBor (List ℕ)) (r r' : Answer) (last last' : List ℕ)
+pub enact : (κ κ' : Lft) (image : MutBor (List ℕ)) (s : Session) (act : Act) (frame : Bor (List ℕ)) (r r' : Answer) (last last' : List ℕ)
     → Enacted κ κ' image s act frame r last → Enacted κ κ' image s act frame r' last' → (r ≡ r') × (last ≡ last')
 enact κ κ' image s act frame r r' last last' p q = (p.0 ∙ sym q.0, p.1 ∙ sym q.1)
 

@@ -4,6 +4,7 @@ use mathlib.Core.Path.{◌≡◌, sym, ◌∙◌}
 use mathlib.Core.List.{List}
 use Prim.Native.Nat.{ℕ}
 use base.Fml.{Lft}
+use denote.Bor.{Bor}
 use denote.Ref.{MutBor, at_last}
 use Rattle.edge.proofs.tirlwheel_frame.Reads as frame-contract
 use Rattle.edge.proofs.tirlwheel_field_reset.Reads as reset-contract
@@ -14,7 +15,7 @@ use Rattle.edge.proofs.tirlwheel_version.Reads as version-contract
 use Rattle.demands.specs.One.{OneResult}
 use Rattle.demands.proofs.Exact.{exact}
 
-module _ (κ₀ κ₁ κ₂ κ₃ : Lft) (image session frame reply : MutBor (List ℕ)) where
+module _ (κ₀ κ₁ κ₂ κ₃ : Lft) (image session : MutBor (List ℕ)) (frame : Bor (List ℕ)) (reply : MutBor (List ℕ)) where
   -- the number, and the image, the record and the reply afterwards
   abbrev pub FrameMeets : ℕ → List ℕ → List ℕ → List ℕ → Type 0
   FrameMeets r i s p =
@@ -43,7 +44,7 @@ module _ (κ₀ κ₁ : Lft) (session reply : MutBor (List ℕ)) where
   pub tirlwheel_field_reset_lem : (r r' : ℕ) (s s' p p' : List ℕ) → ResetMeets r s p → ResetMeets r' s' p' → (r ≡ r') × (s ≡ s') × (p ≡ p')
   tirlwheel_field_reset_lem r r' s s' p p' m n = (m.0 ∙ sym n.0, m.1.0 ∙ sym n.1.0, m.1.1 ∙ sym n.1.1)
 
-module _ (κ₀ κ₁ : Lft) (script printout : MutBor (List ℕ)) where
+module _ (κ₀ κ₁ : Lft) (script : Bor (List ℕ)) (printout : MutBor (List ℕ)) where
   -- the length, and the buffer afterwards
   abbrev pub PlayMeets : ℕ → List ℕ → Type 0
   PlayMeets r last = play-contract.Post (κ₀, (κ₁, tt)) (script, (printout, tt)) r (script, (at_last printout last, tt))
@@ -51,7 +52,7 @@ module _ (κ₀ κ₁ : Lft) (script printout : MutBor (List ℕ)) where
   pub tirlwheel_play_lem : (r r' : ℕ) (last last' : List ℕ) → PlayMeets r last → PlayMeets r' last' → (r ≡ r') × (last ≡ last')
   tirlwheel_play_lem r r' last last' m n = (m.0 ∙ sym n.0, m.1 ∙ sym n.1)
 
-module _ (κ₀ κ₁ : Lft) (script printout : MutBor (List ℕ)) where
+module _ (κ₀ κ₁ : Lft) (script : Bor (List ℕ)) (printout : MutBor (List ℕ)) where
   abbrev pub PlayEv1Meets : ℕ → List ℕ → Type 0
   PlayEv1Meets r last = play-ev1-contract.Post (κ₀, (κ₁, tt)) (script, (printout, tt)) r (script, (at_last printout last, tt))
 

@@ -4,6 +4,7 @@ use mathlib.Core.Path.{◌≡◌, sym, ◌∙◌}
 use mathlib.Core.List.{List}
 use Prim.Native.Nat.{ℕ}
 use base.Fml.{Lft}
+use denote.Bor.{Bor}
 use denote.Ref.{MutBor, at_last}
 use Rattle.session.specs.declared.Session.{Session}
 use Rattle.judge.specs.declared.Act.{Act}
@@ -22,10 +23,11 @@ use Rattle.either_card.proofs.sealed_no_session.Reads as sealed-no-session-contr
 use Rattle.demands.specs.One.{OneResult}
 use Rattle.demands.proofs.Exact.{exact}
 
-module _ (κ κ' : Lft) (image : MutBor (List ℕ)) (k : CardRecord) (s : Session) (frame : MutBor (List ℕ)) where
-  pub judge : OneResult (λ r. judge-contract.Post (κ, (κ', tt)) (image, (k, (s, (frame, tt)))) r (image, (k, (s, (frame, tt)))))
-  judge = exact
+pub judge : (κ κ' : Lft) (image : Bor (List ℕ)) (k : CardRecord) (s : Session) (frame : Bor (List ℕ))
+    → OneResult (λ r. judge-contract.Post (κ, (κ', tt)) (image, (k, (s, (frame, tt)))) r (image, (k, (s, (frame, tt)))))
+judge κ κ' image k s frame = exact
 
+module _ (κ κ' : Lft) (image : MutBor (List ℕ)) (k : CardRecord) (s : Session) (frame : Bor (List ℕ)) where
   -- what an act does: an answer, and the image behind the reference afterwards
   abbrev EnactMeets : Act → CardAnswer → List ℕ → Type 0
   EnactMeets act r last = enact-contract.Post (κ, (κ', tt)) (image, (k, (s, (act, (frame, tt))))) r (at_last image last, (k, (s, (act, (frame, tt)))))

@@ -4,6 +4,7 @@ use mathlib.Core.Path.{◌≡◌, sym, ◌∙◌}
 use mathlib.Core.List.{List}
 use Prim.Native.Nat.{ℕ}
 use base.Fml.{Lft}
+use denote.Bor.{Bor}
 use denote.Ref.{MutBor, at_last}
 use Rattle.layout.specs.declared.Sector.{Sector}
 use Rattle.issue.specs.declared.read.Listing.{Listing}
@@ -14,7 +15,7 @@ use Rattle.issue.proofs.read_access.Reads as read-access-contract
 use Rattle.demands.specs.One.{OneResult}
 use Rattle.demands.proofs.Exact.{exact}
 
-module _ (κ₀ κ₁ : Lft) (image : MutBor (List ℕ)) (infos : List ℕ) (numbers : MutBor (List ℕ)) where
+module _ (κ₀ κ₁ : Lft) (image : MutBor (List ℕ)) (infos : List ℕ) (numbers : Bor (List ℕ)) where
   -- the number, and the image afterwards
   abbrev WriteMeets : ℕ → List ℕ → Type 0
   WriteMeets r last = write-directory-contract.Post (κ₀, (κ₁, tt)) (image, (infos, (numbers, tt))) r (at_last image last, (infos, (numbers, tt)))
@@ -22,7 +23,7 @@ module _ (κ₀ κ₁ : Lft) (image : MutBor (List ℕ)) (infos : List ℕ) (num
   pub write_directory_lem : (r r' : ℕ) (last last' : List ℕ) → WriteMeets r last → WriteMeets r' last' → (r ≡ r') × (last ≡ last')
   write_directory_lem r r' last last' m n = (m.0 ∙ sym n.0, m.1 ∙ sym n.1)
 
-module _ (κ₀ κ₁ : Lft) (image numbers : MutBor (List ℕ)) where
+module _ (κ₀ κ₁ : Lft) (image : Bor (List ℕ)) (numbers : MutBor (List ℕ)) where
   -- what is told, and the list afterwards
   abbrev ReadMeets : Listing → List ℕ → Type 0
   ReadMeets r list = read-directory-contract.Post (κ₀, (κ₁, tt)) (image, (numbers, tt)) r (image, (at_last numbers list, tt))
@@ -38,5 +39,5 @@ module _ (κ : Lft) (image : MutBor (List ℕ)) (s : Sector) (bits : List ℕ) w
   pub write_access_lem : (r r' : ℕ) (last last' : List ℕ) → AccessMeets r last → AccessMeets r' last' → (r ≡ r') × (last ≡ last')
   write_access_lem r r' last last' m n = (m.0 ∙ sym n.0, m.1 ∙ sym n.1)
 
-pub read_access_lem : (κ : Lft) (image : MutBor (List ℕ)) (s : Sector) → OneResult (λ r. read-access-contract.Post (κ, tt) (image, (s, tt)) r (image, (s, tt)))
+pub read_access_lem : (κ : Lft) (image : Bor (List ℕ)) (s : Sector) → OneResult (λ r. read-access-contract.Post (κ, tt) (image, (s, tt)) r (image, (s, tt)))
 read_access_lem κ image s = exact

@@ -4,6 +4,7 @@ use mathlib.Core.Path.{◌≡◌, sym, ◌∙◌}
 use mathlib.Core.List.{List}
 use Prim.Native.Nat.{ℕ}
 use base.Fml.{Lft}
+use denote.Bor.{Bor}
 use denote.Ref.{MutBor, at_last}
 use Rattle.session.specs.declared.Session.{Session}
 use Rattle.edition.specs.declared.CardRecord.{CardRecord}
@@ -18,7 +19,7 @@ use Rattle.kept.proofs.sealed_no_session.Reads as sealed-no-session-contract
 use Rattle.demands.specs.One.{OneResult}
 use Rattle.demands.proofs.Exact.{exact}
 
-module _ (κ κ' : Lft) (image : MutBor (List ℕ)) (k : CardRecord) (f : Figures) (s : Session) (frame : MutBor (List ℕ)) where
+module _ (κ κ' : Lft) (image : MutBor (List ℕ)) (k : CardRecord) (f : Figures) (s : Session) (frame : Bor (List ℕ)) where
   -- an answer with its figures, and the image behind the reference afterwards
   abbrev Meets : KeptAnswer → List ℕ → Type 0
   Meets r last = step-contract.Post (κ, (κ', tt)) (image, (k, (f, (s, (frame, tt))))) r (at_last image last, (k, (f, (s, (frame, tt)))))

@@ -3,6 +3,7 @@
 use mathlib.Core.List.{List}
 use Prim.Native.Nat.{ℕ}
 use base.Fml.{Lft}
+use denote.Bor.{Bor}
 use denote.Ref.{MutBor, at_last}
 use Rattle.layout.specs.declared.Block.{Block}
 use Rattle.memory.proofs.sixteen.Reads as sixteen-contract
@@ -12,13 +13,13 @@ use Rattle.memory.proofs.store.Reads as store-contract
 use Rattle.demands.specs.One.{OneResult}
 use Rattle.demands.proofs.Exact.{exact}
 
-pub sixteen : (κ : Lft) (bytes : MutBor (List ℕ)) → OneResult (λ r. sixteen-contract.Post (κ, tt) (bytes, tt) r (bytes, tt))
+pub sixteen : (κ : Lft) (bytes : Bor (List ℕ)) → OneResult (λ r. sixteen-contract.Post (κ, tt) (bytes, tt) r (bytes, tt))
 sixteen κ bytes = exact
 
-pub byte : (κ : Lft) (image : MutBor (List ℕ)) (b : Block) (i : ℕ) → OneResult (λ r. byte-contract.Post (κ, tt) (image, (b, (i, tt))) r (image, (b, (i, tt))))
+pub byte : (κ : Lft) (image : Bor (List ℕ)) (b : Block) (i : ℕ) → OneResult (λ r. byte-contract.Post (κ, tt) (image, (b, (i, tt))) r (image, (b, (i, tt))))
 byte κ image b i = exact
 
-pub content : (κ : Lft) (image : MutBor (List ℕ)) (b : Block) → OneResult (λ r. content-contract.Post (κ, tt) (image, (b, tt)) r (image, (b, tt)))
+pub content : (κ : Lft) (image : Bor (List ℕ)) (b : Block) → OneResult (λ r. content-contract.Post (κ, tt) (image, (b, tt)) r (image, (b, tt)))
 content κ image b = exact
 
 pub store : (κ : Lft) (image : MutBor (List ℕ)) (b : Block) (bytes : List ℕ) → OneResult (λ last. store-contract.Post (κ, tt) (image, (b, (bytes, tt))) tt (at_last image last, (b, (bytes, tt))))

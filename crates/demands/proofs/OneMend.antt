@@ -4,6 +4,7 @@ use mathlib.Core.Path.{◌≡◌, sym, ◌∙◌}
 use mathlib.Core.List.{List}
 use Prim.Native.Nat.{ℕ}
 use base.Fml.{Lft}
+use denote.Bor.{Bor}
 use denote.Ref.{MutBor, at_last}
 use Rattle.layout.specs.declared.Block.{Block}
 use Rattle.mend.specs.declared.one.Outcome.{Outcome}
@@ -24,7 +25,7 @@ pub mend_block_lem : (κ : Lft) (image : MutBor (List ℕ)) (b : Block) (r r' : 
     → BlockMeets κ image b r last → BlockMeets κ image b r' last' → (r ≡ r') × (last ≡ last')
 mend_block_lem κ image b r r' last last' p q = (p.0 ∙ sym q.0, p.1 ∙ sym q.1)
 
-module _ (κ₀ κ₁ κ₂ : Lft) (image names report : MutBor (List ℕ)) where
+module _ (κ₀ κ₁ κ₂ : Lft) (image : MutBor (List ℕ)) (names : Bor (List ℕ)) (report : MutBor (List ℕ)) where
   -- the number, and the image and the report afterwards
   abbrev MendMeets : ℕ → List ℕ → List ℕ → Type 0
   MendMeets r last told =

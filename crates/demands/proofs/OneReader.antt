@@ -11,7 +11,8 @@ use prog.Memory.{Memory}
 use prog.Routine.{Routine}
 use types.Logic.{Logic}
 use contract.Monad.{Fun, fact}
-use denote.Ref.{Bor}
+use denote.Bor.{Bor}
+use denote.Ref.{MutBor}
 use denote.Triple.Clauses.{at_exit}
 use Rattle.script.specs.Script.{events_start}
 use Rattle.reader.specs.Reader.{step_at}
@@ -74,7 +75,7 @@ module _ {M : Type 1} {𝓤 : Ura M} (𝓛 : Logic 𝓤) (mem : Memory → SProp
       (fact 𝓤 (PeekSaid walk s))
   peek_says walk s = refl
 
-  pub next_says : (walk : Bor Reader) (s : Step) (last : Reader) → ◌≡◌ {A = SProp 𝓤}
+  pub next_says : (walk : MutBor Reader) (s : Step) (last : Reader) → ◌≡◌ {A = SProp 𝓤}
       ((next-contract.clauses 𝓛 mem run (κ, (κ', tt)) (walk, tt)).ensures tt s (at_exit next-contract.ended (κ, (κ', tt)) (walk, tt) (last, tt)))
       (fact 𝓤 (NextSaid walk.now s last))
   next_says walk s last = refl

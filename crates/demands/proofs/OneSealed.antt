@@ -4,6 +4,7 @@ use mathlib.Core.Path.{◌≡◌, sym, ◌∙◌, ap}
 use mathlib.Core.List.{List}
 use Prim.Native.Nat.{ℕ}
 use base.Fml.{Lft}
+use denote.Bor.{Bor}
 use denote.Ref.{MutBor, at_last}
 use Rattle.session.specs.declared.Session.{Session}
 use Rattle.sealed.specs.declared.SealedAnswer.{SealedAnswer}
@@ -18,17 +19,17 @@ use Rattle.demands.specs.One.{OneResult}
 use Rattle.demands.proofs.Exact.{exact}
 
 -- an answer, and the image behind the reference afterwards
-abbrev Meets : Lft → Lft → MutBor (List ℕ) → Session → MutBor (List ℕ) → SealedAnswer → List ℕ → Type 0
+abbrev Meets : Lft → Lft → MutBor (List ℕ) → Session → Bor (List ℕ) → SealedAnswer → List ℕ → Type 0
 Meets κ κ' image s frame r last = step-contract.Post (κ, (κ', tt)) (image, (s, (frame, tt))) r (at_last image last, (s, (frame, tt)))
 
-pub step : (κ κ' : Lft) (image : MutBor (List ℕ)) (s : Session) (frame : MutBor (List ℕ)) (r r' : SealedAnswer) (last last' : List ℕ)
+pub step : (κ κ' : Lft) (image : MutBor (List ℕ)) (s : Session) (frame : Bor (List ℕ)) (r r' : SealedAnswer) (last last' : List ℕ)
     → Meets κ κ' image s frame r last → Meets κ κ' image s frame r' last' → (r ≡ r') × (last ≡ last')
 step κ κ' image s frame r r' last last' p q = (p.0 ∙ sym q.0, p.1 ∙ sym q.1)
 
 pub no_session_lem : (bytes : ℕ) → OneResult (λ r. no-session-contract.Post tt (bytes, tt) r (bytes, tt))
 no_session_lem bytes = exact
 
-pub is_sealed_lem : (κ : Lft) (frame : MutBor (List ℕ)) → OneResult (λ r. is-sealed-contract.Post (κ, tt) (frame, tt) r (frame, tt))
+pub is_sealed_lem : (κ : Lft) (frame : Bor (List ℕ)) → OneResult (λ r. is-sealed-contract.Post (κ, tt) (frame, tt) r (frame, tt))
 is_sealed_lem κ frame = exact
 
 -- the number of an outcome
@@ -36,7 +37,7 @@ abbrev number : Outcome → ℕ
 number passes = 0
 number (refuses n) = n
 
-pub first_refusal_lem : (κ : Lft) (image : MutBor (List ℕ)) (s : Session) → OneResult (λ r. first-refusal-contract.Post (κ, tt) (image, (s, tt)) r (image, (s, tt)))
+pub first_refusal_lem : (κ : Lft) (image : Bor (List ℕ)) (s : Session) → OneResult (λ r. first-refusal-contract.Post (κ, tt) (image, (s, tt)) r (image, (s, tt)))
 first_refusal_lem κ image s r r' p q = ap number (sym p ∙ q)
 
 pub sealed : (a : Answer) → OneResult (λ r. sealed-contract.Post tt (a, tt) r (a, tt))
