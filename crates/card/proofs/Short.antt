@@ -8,7 +8,6 @@ use lib.ListN.{take, drop, take-append-drop}
 use lib.Seq.{drop-drop}
 use Rattle.memory.specs.Memory.{sixteen_of, content_of, store_of}
 use Rattle.access.specs.declared.rights.Parts.{Parts}
-use Rattle.session.specs.declared.Auth.{Auth}
 use Rattle.session.specs.declared.Session.{Session}
 use Rattle.judge.specs.Checks.{writable_by}
 use Rattle.judge.specs.Code.{shortened}

@@ -1,6 +1,5 @@
 -- What an act gives back, and what it leaves behind. Refusals are cases like any other.
 use Rattle.std.specs.Prelude.{cond, ◌||◌, List, ℕ, ◌+◌, ◌*◌, eqb}
-use Rattle.layout.specs.declared.Block.{Block}
 use Rattle.memory.specs.Memory.{sixteen_of, content_of, store_of}
 use Rattle.access.specs.Rights.{readable_of}
 use Rattle.value.specs.Whole.{signed}

@@ -1,8 +1,8 @@
 -- The lookup's answer is the one from reading every entry.
 -- Assumes nothing.
-use mathlib.Core.Path.{◌≡◌, refl, sym, ◌∙◌, ap}
+use mathlib.Core.Path.{◌≡◌, refl, sym, ◌∙◌}
 use mathlib.Core.Bool.{Bool, true, false}
-use mathlib.Core.List.{List, [], ◌∷◌, ◌++◌}
+use mathlib.Core.List.{List, [], ◌∷◌}
 use Prim.Native.Nat.{ℕ, zero, suc, ◌+◌, ◌-◌, ◌≤◌, ◌<◌}
 use native.Mathlib.Omega.{arith}
 use lib.Dec.{eqb, leb}
@@ -10,7 +10,7 @@ use lib.ListN.{length, get_or, length-append, get_or-append}
 use borrow.Author.Tests.{eqb-true, eqb-false, eq-eqb, ne_eqb, leb-true, leb-false}
 use Rattle.directory.specs.Directory.{version_of, entries_in, entries_of, entry_at}
 use Rattle.directory.specs.Lookup.{place_from, sector_of_place, refusal_of, looked_of, searched, lookup_of}
-use Rattle.directory.specs.Every.{entry_count, HeldAt, ReadAll, EveryEntry, NoEntry}
+use Rattle.directory.specs.Every.{HeldAt, ReadAll, EveryEntry, NoEntry}
 use Rattle.directory.specs.declared.Version.{Version}
 use Rattle.directory.specs.declared.Version.TheVariants.{Absent, One, Two}
 use Rattle.directory.specs.declared.Part.TheVariants.{First, Second}

@@ -1,6 +1,6 @@
 -- An entry has two bytes, so a number above FFFFh is held nowhere.
 -- Assumes nothing.
-use mathlib.Core.Path.{◌≡◌, refl, sym}
+use mathlib.Core.Path.{◌≡◌, refl}
 use mathlib.Core.Bool.{Bool, true, false}
 use mathlib.Core.List.{List}
 use Prim.Native.Nat.{ℕ, ◌+◌, ◌*◌, ◌-◌, ◌/◌, ◌%◌, ◌≤◌, ◌<◌}
@@ -13,9 +13,9 @@ use Rattle.layout.specs.Layout.{has_block, block_at}
 use Rattle.layout.specs.declared.Block.{Block}
 use Rattle.memory.specs.Memory.{content_of, byte_of}
 use Rattle.directory.specs.Directory.{entry_at}
-use Rattle.directory.specs.Lookup.{refusal_of, lookup_of}
+use Rattle.directory.specs.Lookup.{lookup_of}
 use Rattle.directory.specs.Code.{number_at}
-use Rattle.directory.specs.Every.{entry_count, HeldAt, ReadAll, TooLarge}
+use Rattle.directory.specs.Every.{entry_count, ReadAll, TooLarge}
 use Rattle.directory.specs.declared.Found.TheVariants.{Nothing}
 use Rattle.directory.proofs.Places.{first_place, second_place, past_places}
 use Rattle.directory.proofs.Every.{every_entry}

@@ -1,14 +1,14 @@
 -- The register is linear in what it is fed, so the quick ways of the code need to be right for single bits alone.
 -- Assumes nothing.
 use mathlib.Core.Path.{◌≡◌, refl, sym, ◌∙◌, ap, ap₂}
-use mathlib.Core.List.{List, [], ◌∷◌, ◌++◌}
+use mathlib.Core.List.{[], ◌∷◌}
 use Prim.Native.Nat.{ℕ, zero, suc, ◌+◌, ◌*◌, ◌/◌, ◌%◌, ◌^◌, ◌<◌}
 use native.Mathlib.Omega.{arith}
 use lib.Bits.{bit_xor, xor_zero_l, xor_zero_r}
 use Rattle.xor.proofs.Xor.{xor_swap, xor_times}
 use Rattle.directory.specs.Checksum.{shifted, shifts, byte_on, bytes_on}
 use Rattle.directory.specs.Code.{feed, standing, low_bits_of}
-use Rattle.directory.proofs.Linear.{Linear, whole, both, down, cut, up, alike, agree}
+use Rattle.directory.proofs.Linear.{Linear, whole, both, down, cut, up, agree}
 
 high_bit : Linear (λ (x : ℕ). x / 128 % 2)
 high_bit = cut 1 (λ (x : ℕ). x / 128) (down 7 (λ (x : ℕ). x) whole)

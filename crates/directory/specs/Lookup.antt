@@ -1,5 +1,5 @@
 -- Which sector is an application's: the lookup, its refusals, and the entries it looked at.
-use Rattle.std.specs.Prelude.{Bool, cond, ◌&&◌, List, [], ◌∷◌, ℕ, suc, ◌+◌, leb, eqb, length}
+use Rattle.std.specs.Prelude.{cond, ◌&&◌, List, [], ◌∷◌, ℕ, suc, ◌+◌, leb, eqb, length}
 use Rattle.layout.specs.Layout.{sectors_of}
 use Rattle.layout.specs.declared.Sector.{Sector}
 use Rattle.directory.specs.Directory.{version_of, is_intact, entries_of}

@@ -1,13 +1,13 @@
 -- Four bytes there and back.
 -- Assumes nothing.
-use mathlib.Core.Path.{◌≡◌, refl, sym, ◌∙◌, ap}
-use mathlib.Core.Bool.{Bool, true, false, cond, ◌&&◌, ◌||◌, false≢true}
+use mathlib.Core.Path.{◌≡◌, refl, sym, ◌∙◌}
+use mathlib.Core.Bool.{Bool, true, false, cond, ◌&&◌, false≢true}
 use mathlib.Core.List.{List, [], ◌∷◌}
-use Prim.Native.Nat.{ℕ, ◌<◌}
+use Prim.Native.Nat.{ℕ}
 use native.Mathlib.Omega.{arith}
 use lib.Dec.{eqb, ltb}
-use lib.ListN.{length, get_or}
-use borrow.Author.Tests.{eqb-true, eqb-false, ltb-true, eq-eqb, ne_eqb}
+use lib.ListN.{length}
+use borrow.Author.Tests.{eqb-true, eqb-false, ltb-true}
 use Rattle.edition.specs.declared.Edition.{Edition}
 use Rattle.edition.specs.declared.Edition.TheVariants.{Old, Ev1}
 use Rattle.edition.specs.declared.Usage.TheVariants.{Double, Shortened, Random, Single}
@@ -15,7 +15,7 @@ use Rattle.edition.specs.declared.Choice.{Choice}
 use Rattle.edition.specs.declared.Choice.TheVariants.{Open, Locked}
 use Rattle.edition.specs.declared.CardRecord.{CardRecord}
 use Rattle.edition.specs.declared.Found.TheVariants.{Card, Nothing}
-use Rattle.edition.specs.Edition.{usage_of, usage_code}
+use Rattle.edition.specs.Edition.{usage_of}
 use Rattle.edition.specs.Bytes.{edition_code, lock_code, type_code, record_bytes, is_usage, is_choice, is_card, edition_by, chosen_by, choice_by, named_by, found_in}
 
 -- a record is found in its own bytes

@@ -2,12 +2,12 @@
 -- Assumes nothing.
 use mathlib.Core.Path.{◌≡◌, refl, sym, ◌∙◌, ap}
 use mathlib.Core.Bool.{Bool, true, false, not, cond, ◌&&◌, ◌||◌, false≢true}
-use mathlib.Core.List.{List, [], ◌∷◌, ◌++◌}
+use mathlib.Core.List.{List, [], ◌∷◌}
 use Prim.Native.Nat.{ℕ, ◌<◌}
 use native.Mathlib.Omega.{arith}
 use lib.Dec.{eqb}
 use lib.ListN.{length}
-use borrow.Author.Tests.{eqb-true, ne_eqb, not-true, not-false}
+use borrow.Author.Tests.{eqb-true, not-false}
 use Rattle.layout.specs.Layout.{sectors_of, blocks_in, blocks_of, has_block, sector_of, trailer_of, is_trailer, group_at, group_of, block_at}
 use Rattle.layout.specs.declared.Group.TheVariants.{First, Trailer}
 use Rattle.layout.specs.declared.Sector.{Sector}
@@ -15,7 +15,7 @@ use Rattle.access.specs.Bits.{group_bits}
 use Rattle.access.specs.declared.bits.AccessBytes.{AccessBytes}
 use Rattle.access.specs.declared.rights.Letter.{Letter}
 use Rattle.access.specs.declared.rights.Operation.TheVariants as Operation
-use Rattle.session.specs.Session.{is_idle, in_sector}
+use Rattle.session.specs.Session.{in_sector}
 use Rattle.session.specs.declared.Auth.TheVariants.{Nobody, As}
 use Rattle.session.specs.declared.Auth.{Auth}
 use Rattle.session.specs.declared.Register.{Register}
@@ -25,13 +25,13 @@ use Rattle.session.specs.declared.Stage.{Stage}
 use Rattle.session.specs.declared.Stage.TheVariants.{Idle, WriteWaits, ValueWaits}
 use Rattle.frame.specs.Command.{byte_in, two_bytes_of, first_of, command_of}
 use Rattle.frame.specs.declared.Command.TheVariants.{Read}
-use Rattle.judge.specs.First.{Outcome, passes, refuses, check, first, ruled}
+use Rattle.judge.specs.First.{passes, refuses, check, first, ruled}
 use Rattle.judge.specs.Checks.{access_of, no_card, incoherent, no_block, other_sector, is_blocked, is_forbidden, right_of, has_right, no_right, memory_checks, checks_of, frame_checks}
 use Rattle.judge.specs.Judge.{shown_of, done_of, commanded_of, judge_of}
 use Rattle.judge.specs.Code.{shortened}
 use Rattle.judge.specs.declared.Act.{Act}
-use Rattle.judge.specs.declared.Act.TheVariants.{Refused, Shown, TrailerShown}
-use Rattle.card.specs.Effects.{number_of, refused_sign, sign_of, reply_of, session_of, image_of}
+use Rattle.judge.specs.declared.Act.TheVariants.{Refused, Shown}
+use Rattle.card.specs.Effects.{number_of, refused_sign, sign_of, reply_of, session_of}
 use Rattle.card.specs.Step.{answered, refusal_of, answer_of, image_after}
 use Rattle.card.specs.declared.Answer.{Answer}
 use Rattle.card.specs.declared.Sign.{Sign}
@@ -40,7 +40,6 @@ use Rattle.card.proofs.Short.{short_answer}
 use Rattle.edition.specs.Edition.{usage_of, wrong_size}
 use Rattle.edition.specs.declared.Edition.{Edition}
 use Rattle.edition.specs.declared.Edition.TheVariants.{Old, Ev1}
-use Rattle.edition.specs.declared.Usage.{Usage}
 use Rattle.edition.specs.declared.Choice.{Choice}
 use Rattle.edition.specs.declared.Choice.TheVariants.{Open, Locked}
 use Rattle.edition.specs.declared.Asked.{Asked}
@@ -48,7 +47,7 @@ use Rattle.edition.specs.declared.Asked.TheVariants.{For, Unknown}
 use Rattle.edition.specs.declared.CardRecord.{CardRecord}
 use Rattle.either_card.specs.Nak.{value_of, nak_of}
 use Rattle.either_card.specs.Personal.{is_personal, read_zero, chosen, choosing, acknowledged_sign, acknowledged, locked_with}
-use Rattle.either_card.specs.Either.{personal, card_act_of, sealed_card_act_of, given_for, card_answer_of, card_image_after, sealed_card_image_after}
+use Rattle.either_card.specs.Either.{personal, card_act_of, given_for, card_answer_of, card_image_after}
 use Rattle.either_card.specs.Code.{sector_refusal, zero_refusal, read_refusal, given_of, acknowledged_with}
 
 pub read_command : (w : Stage) → w ≡ Idle → command_of w read_zero ≡ Read (block_at 0)

@@ -6,8 +6,7 @@ use mathlib.Core.List.{List, [], ◌∷◌, ◌++◌}
 use Prim.Native.Nat.{ℕ}
 use lib.Dec.{eqb}
 use lib.ListN.{length}
-use native.Mathlib.Omega.{arith}
-use borrow.Author.Tests.{ne_eqb, not-true, not-false}
+use borrow.Author.Tests.{not-true, not-false}
 use Rattle.session.specs.declared.Session.{Session}
 use Rattle.judge.specs.First.{Outcome, passes, refuses, check, first, ruled}
 use Rattle.judge.specs.Checks.{no_card, incoherent, frame_checks}
@@ -16,7 +15,7 @@ use Rattle.judge.specs.declared.Act.{Act}
 use Rattle.judge.specs.declared.Act.TheVariants.{Refused}
 use Rattle.card.specs.Effects.{number_of, image_of}
 use Rattle.card.specs.Step.{refusal_of}
-use Rattle.sealed.specs.Sealed.{inner_of, unsealed, sealed_of, sealed_act_of, sealed_answer_of, sealed_image_after}
+use Rattle.sealed.specs.Sealed.{inner_of, unsealed, sealed_act_of, sealed_answer_of, sealed_image_after}
 use Rattle.edition.specs.Edition.{usage_of, wrong_size}
 use Rattle.edition.specs.declared.Asked.{Asked}
 use Rattle.edition.specs.declared.Choice.{Choice}

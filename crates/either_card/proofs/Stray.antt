@@ -1,8 +1,8 @@
 -- A session that 12 refuses: what every frame gets.
 -- Assumes nothing.
-use mathlib.Core.Path.{◌≡◌, refl, sym, ◌∙◌}
+use mathlib.Core.Path.{◌≡◌, refl, ◌∙◌}
 use mathlib.Core.Bool.{Bool, true, false, cond}
-use mathlib.Core.List.{List, [], ◌∷◌, ◌++◌}
+use mathlib.Core.List.{List, [], ◌∷◌}
 use Prim.Native.Nat.{ℕ}
 use lib.Dec.{eqb}
 use lib.ListN.{length}
@@ -19,7 +19,6 @@ use Rattle.judge.specs.declared.Act.TheVariants.{Refused}
 use Rattle.card.specs.Trailer.{zeros}
 use Rattle.card.specs.Effects.{number_of, refused_sign, image_of}
 use Rattle.card.specs.Step.{refusal_of, no_session_of}
-use Rattle.card.specs.declared.Answer.{Answer}
 use Rattle.card.specs.declared.Sign.TheVariants.{Nothing}
 use Rattle.sealed.specs.Sealed.{inner_of, unsealed}
 use Rattle.edition.specs.Edition.{usage_of, wrong_size}

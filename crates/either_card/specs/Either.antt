@@ -9,7 +9,6 @@ use Rattle.judge.specs.declared.Act.{Act}
 use Rattle.judge.specs.declared.Act.TheVariants.{Refused}
 use Rattle.card.specs.Effects.{number_of, sign_of, image_of}
 use Rattle.card.specs.Step.{answered, refusal_of, reset_of, no_session_of}
-use Rattle.card.specs.declared.Answer.{Answer}
 use Rattle.sealed.specs.Sealed.{inner_of, unsealed, sealed_of}
 use Rattle.edition.specs.Edition.{usage_of, wrong_size}
 use Rattle.edition.specs.declared.CardRecord.{CardRecord}

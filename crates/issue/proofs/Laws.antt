@@ -24,7 +24,7 @@ use Rattle.issue.specs.Write.{version_for, version_number, write_number, part_by
 use Rattle.issue.specs.Read.{count_of, infos_of, bytes_of, list_of, read_version, read_of, read_list}
 use Rattle.issue.specs.Laws.{Bytes, version_on, infos_for, ReadsBack, Held, Lowest, FindsLowest, numbers_read, SameAgain, NotAmong, OthersStay, KeysStay, BitsStay, RefusedStays, LengthStays, ByLength, FifteenNumbers, FromDelivery, FromZero}
 use Rattle.issue.proofs.Choice.{digit_of, Fits, fits_version, Choice, choice, needed_some}
-use Rattle.issue.proofs.Blocks.{held, filled_length, filled_other, filled_back}
+use Rattle.issue.proofs.Blocks.{filled_length, filled_other, filled_back}
 use Rattle.issue.proofs.Lists.{bytes_length, entries_count}
 use Rattle.issue.proofs.Versions.{written_as_lem, directory_length, has_trailer, blocks_apart, trailer_apart, announcing_bits, announced_length, announced_other, announced_held, announced_trailer, announced_byte, announces, whole_of, whole_held, Back, back}
 use Rattle.issue.proofs.Again.{bytes_back, announces_version, written_same}

@@ -7,13 +7,10 @@ use Prim.Native.Nat.{ℕ, ◌<◌}
 use native.Mathlib.Omega.{arith}
 use lib.Dec.{eqb}
 use borrow.Author.Tests.{eqb-true, not-false}
-use types.Run.{OneOf, miss}
-use denote.Enum.Declared.{tag_of}
 use Rattle.layout.specs.Layout.{sector_of, is_trailer, group_at, group_of}
 use Rattle.layout.specs.declared.Block.{Block}
 use Rattle.layout.specs.declared.Group.{Group}
 use Rattle.layout.specs.declared.Group.TheVariants.{First, Trailer}
-use Rattle.layout.specs.contracts.Group.{the_type}
 use Rattle.layout.proofs.Laws.{trailer_group, group_trailer}
 use Rattle.access.specs.Bits.{well_formed, group_bits}
 use Rattle.access.specs.Rights.{writable_of}

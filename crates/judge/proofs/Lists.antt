@@ -6,8 +6,6 @@ use mathlib.Core.List.{List, [], ◌∷◌, ◌++◌}
 use Prim.Native.Nat.{ℕ}
 use native.Mathlib.Omega.{arith}
 use lib.Dec.{eqb}
-use types.Run.{OneOf, miss}
-use denote.Enum.Declared.{tag_of}
 use Rattle.layout.specs.Layout.{is_trailer}
 use Rattle.layout.specs.declared.Block.{Block}
 use Rattle.access.specs.declared.rights.Letter.{Letter}
@@ -21,7 +19,6 @@ use Rattle.session.specs.declared.Kind.TheVariants.{Increment, Decrement, Restor
 use Rattle.session.specs.declared.Session.{Session}
 use Rattle.frame.specs.declared.Command.{Command}
 use Rattle.frame.specs.declared.Command.TheVariants.{Unknown, Authenticate, Read, Write, Store, Begin, Apply, Transfer, Halt}
-use Rattle.frame.specs.contracts.Command.{the_type}
 use Rattle.judge.specs.declared.Act.{Act}
 use Rattle.judge.specs.declared.Act.TheVariants.{Refused}
 use Rattle.judge.specs.declared.checks.Verdict.{Verdict}

@@ -1,6 +1,6 @@
 -- The code's shortcut for trailers, against the judgement.
 -- Assumes nothing.
-use mathlib.Core.Path.{◌≡◌, refl, sym, ◌∙◌, ap}
+use mathlib.Core.Path.{◌≡◌, refl, ◌∙◌, ap}
 use mathlib.Core.Bool.{Bool, true, false, cond, ◌&&◌, false≢true}
 use mathlib.Core.List.{List}
 use Prim.Native.Nat.{ℕ}
@@ -27,7 +27,7 @@ use Rattle.judge.specs.Judge.{total_for, load_of, applied_of, move_of, trailer_b
 use Rattle.judge.specs.Code.{trailer_grant, grant_of, column_of, block_of, is_memory, shown_as, stored_as, done_with, coded_of, shortened}
 use Rattle.judge.specs.declared.checks.Verdict.TheVariants.{Whole, InParts}
 use Rattle.judge.specs.declared.Act.{Act}
-use Rattle.judge.specs.declared.Act.TheVariants.{Refused, Authenticated, Shown, TrailerShown, Stored, TrailerStored}
+use Rattle.judge.specs.declared.Act.TheVariants.{Authenticated, Shown, TrailerShown, Stored, TrailerStored}
 
 -- a refusal is no shortcut
 pub short_ruled : (auth : Auth) (o : Outcome) (act : Act) → ruled o (shortened auth act) ≡ shortened auth (ruled o act)

@@ -9,11 +9,8 @@ use native.Mathlib.Omega.{arith}
 use lib.Dec.{eqb}
 use lib.ListN.{length}
 use borrow.Author.Tests.{not-true, not-false}
-use types.Run.{OneOf, miss}
-use denote.Enum.Declared.{tag_of}
-use Rattle.layout.specs.Layout.{has_block, is_trailer, block_at}
+use Rattle.layout.specs.Layout.{is_trailer}
 use Rattle.layout.specs.declared.Block.{Block}
-use Rattle.session.specs.declared.Auth.{Auth}
 use Rattle.session.specs.declared.Register.{Register}
 use Rattle.session.specs.declared.Register.TheVariants.{Empty, Full}
 use Rattle.session.specs.declared.Session.{Session}
@@ -24,13 +21,11 @@ use Rattle.frame.specs.declared.Command.{Command}
 use Rattle.frame.specs.declared.Command.TheVariants.{Unknown, Authenticate, Read, Write, Store, Begin, Apply, Transfer, Halt}
 use Rattle.judge.specs.First.{Outcome, passes, refuses, check, first, ruled}
 use Rattle.judge.specs.Checks.{writable_by, no_card, incoherent, frame_checks}
-use Rattle.judge.specs.Judge.{trailer_bits, total_for, load_of, applied_of, move_of, shown_of, stored_of, done_of, commanded_of, judge_of}
+use Rattle.judge.specs.Judge.{trailer_bits, load_of, applied_of, move_of, shown_of, stored_of, done_of, commanded_of, judge_of}
 use Rattle.judge.specs.Code.{shortened}
 use Rattle.judge.specs.declared.Act.{Act}
-use Rattle.judge.specs.contracts.Act.{the_type}
 use Rattle.judge.specs.declared.Act.TheVariants.{Refused, Authenticated, Shown, TrailerShown, WriteWaits, ValueWaits, Stored, TrailerStored, Loaded, Moved, Halted}
 use Rattle.card.specs.Effects.{number_of, image_of}
-use Rattle.card.specs.Step.{refusal_of}
 use Rattle.card.proofs.Short.{short_image}
 use Rattle.sealed.specs.Sealed.{inner_of, unsealed}
 use Rattle.edition.specs.Edition.{usage_of, wrong_size}
@@ -41,12 +36,9 @@ use Rattle.edition.specs.declared.Asked.{Asked}
 use Rattle.edition.specs.declared.Asked.TheVariants as asked
 use Rattle.either_card.specs.Personal.{read_zero, chosen, choosing}
 use Rattle.either_card.specs.Either.{personal, card_act_of, sealed_card_act_of, given_for}
-use Rattle.either_card.specs.Code.{given_of}
-use Rattle.either_card.specs.declared.CardAnswer.{CardAnswer}
 use Rattle.either_card.proofs.Laws.{short_given, refusal_given}
 use Rattle.either_card.proofs.Sealed.{inner_card_act}
 use Rattle.tally.specs.Change.{in_range}
-use Rattle.tally.specs.Full.{counts}
 use Rattle.tally.specs.declared.change.Figures.{Figures}
 use Rattle.tally.specs.declared.change.Settled.{Settled}
 use Rattle.tally.specs.declared.change.Settled.TheVariants.{Kept, Outside}

@@ -1,22 +1,21 @@
 -- A session that 12 refuses: the answer without figures, and the figures as they came.
 -- Assumes nothing.
-use mathlib.Core.Path.{◌≡◌, refl, sym, ◌∙◌, ap}
-use mathlib.Core.Bool.{Bool, true, false, not, cond}
-use mathlib.Core.List.{List, [], ◌∷◌, ◌++◌}
+use mathlib.Core.Path.{◌≡◌, refl}
+use mathlib.Core.Bool.{Bool, true, false, cond}
+use mathlib.Core.List.{List}
 use Prim.Native.Nat.{ℕ}
 use lib.ListN.{length}
 use Rattle.session.specs.declared.Session.{Session}
-use Rattle.judge.specs.First.{passes, refuses, check, first, ruled}
+use Rattle.judge.specs.First.{refuses, first, ruled}
 use Rattle.judge.specs.Checks.{no_card, incoherent, frame_checks}
 use Rattle.judge.specs.declared.Act.{Act}
 use Rattle.judge.specs.declared.Act.TheVariants.{Refused}
 use Rattle.card.specs.Effects.{image_of}
-use Rattle.sealed.specs.Sealed.{inner_of, unsealed}
+use Rattle.sealed.specs.Sealed.{inner_of}
 use Rattle.edition.specs.Edition.{wrong_size}
 use Rattle.edition.specs.declared.CardRecord.{CardRecord}
 use Rattle.either_card.specs.Either.{card_act_of, sealed_card_act_of, given_for, card_answer_of, card_image_after, sealed_card_of, sealed_card_answer_of, sealed_card_image_after, card_no_session_of}
 use Rattle.either_card.proofs.Stray.{no_session_bare, no_session_sealed}
-use Rattle.tally.specs.Change.{in_range}
 use Rattle.tally.specs.declared.change.Figures.{Figures}
 use Rattle.kept.specs.Kept.{settled_by, lastly, kept_checks, kept_act_of, kept_for, kept_answer_of, kept_image_after, sealed_kept_of, sealed_kept_answer_of, sealed_kept_image_after, kept_no_session_of}
 use Rattle.kept.proofs.Laws.{Early, early, early_card, early_sealed}

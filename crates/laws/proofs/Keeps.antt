@@ -10,7 +10,6 @@ use lib.ListN.{length}
 use borrow.Author.Tests.{eqb-true, eqb-false}
 use Rattle.layout.specs.Layout.{block_at, is_trailer, trailer_of, sector_of}
 use Rattle.session.specs.declared.Session.{Session}
-use Rattle.session.specs.declared.Stage.{Stage}
 use Rattle.session.specs.declared.Stage.TheVariants.{Idle}
 use Rattle.frame.specs.Command.{byte_in}
 use Rattle.frame.specs.declared.Command.TheVariants.{Read}

@@ -30,7 +30,7 @@ use Rattle.frame.specs.declared.Command.{Command}
 use Rattle.frame.specs.declared.Command.TheVariants.{Read, Write, Store, Begin, Apply, Transfer}
 use Rattle.frame.proofs.Came.{Came, unknown, authenticate, reads, writes, stores, begins, applies, transfers, halts, came}
 use Rattle.judge.specs.First.{Check, check, passes, first, ruled}
-use Rattle.judge.specs.Checks.{access_of, no_block, other_sector, is_blocked, wrong_key, no_value, kind_column, memory_checks, checks_of, authenticate_checks, frame_checks}
+use Rattle.judge.specs.Checks.{no_block, other_sector, is_blocked, wrong_key, no_value, kind_column, memory_checks, checks_of, authenticate_checks, frame_checks}
 use Rattle.judge.specs.Judge.{total_for, load_of, applied_of, move_of, trailer_bits, shown_of, stored_of, done_of, commanded_of, judge_of}
 use Rattle.judge.specs.declared.Act.{Act}
 use Rattle.judge.specs.declared.Act.TheVariants.{Shown, TrailerShown, Stored, TrailerStored}

@@ -7,10 +7,9 @@ use native.Mathlib.Omega.{arith}
 use lib.ListN.{length}
 use Rattle.session.specs.Session.{fresh_of}
 use Rattle.session.specs.declared.Session.{Session}
-use Rattle.edition.specs.declared.Edition.{Edition}
 use Rattle.edition.specs.declared.CardRecord.{CardRecord}
 use Rattle.script.specs.Script.{Reading, lawful, refused, refusal_in, event_count, events_start, events_from, stop_in, events_on}
-use Rattle.runs.specs.Run.{State, begin, Sent, run_of, answers_of}
+use Rattle.runs.specs.Run.{begin, Sent, run_of, answers_of}
 use Rattle.play.specs.Text.{put_of, Put}
 use Rattle.play.specs.Run.{sent_of, events_in, reading_for, events_of}
 use Rattle.play.specs.Results.{results_of, card_results_of, width_of, kept_of}

@@ -3,7 +3,6 @@
 use mathlib.Core.Path.{◌≡◌, refl, ap}
 use mathlib.Core.List.{List, [], ◌∷◌, ◌++◌}
 use mathlib.Core.Bool.{Bool, true, false, cond}
-use Rattle.session.specs.declared.Session.{Session}
 use Rattle.card.specs.Effects.{session_of, image_of}
 use Rattle.card.specs.Step.{answered}
 use Rattle.card.specs.declared.Answer.{Answer}

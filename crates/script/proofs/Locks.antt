@@ -1,10 +1,9 @@
 -- What is read of an EV1's script, by how the walk over its events ended.
 -- Assumes nothing.
-use mathlib.Core.Path.{◌≡◌, refl, sym, ap}
+use mathlib.Core.Path.{◌≡◌, refl, ap}
 use mathlib.Core.Bool.{Bool, true, false, cond}
 use mathlib.Core.List.{List}
-use Prim.Native.Nat.{ℕ, ◌+◌, ◌≤◌}
-use native.Mathlib.Omega.{arith}
+use Prim.Native.Nat.{ℕ, ◌≤◌}
 use lib.Dec.{eqb}
 use lib.ListN.{length, get_or, get_or-eq_default}
 use borrow.Author.Tests.{eqb-true}

@@ -10,12 +10,9 @@ use lib.Dec.{eqb, ltb}
 use lib.ListN.{length, take, drop, get_or, set, replicate, drop_of_length-le}
 use lib.Seq.{drop-cons}
 use borrow.Author.Tests.{lt-ltb, le-ltb, ltb-false}
-use types.Run.{OneOf, miss}
-use denote.Enum.Declared.{tag_of}
 use Rattle.value.proofs.Words.{listed}
 use Rattle.card.specs.declared.Sign.{Sign}
 use Rattle.card.specs.declared.Sign.TheVariants.{Ack, Nak, Data, Nothing}
-use Rattle.card.specs.contracts.Sign.{the_type}
 use Rattle.checksum.specs.Checksum.{crc_of, two_of}
 use Rattle.sealed.specs.Sealed.{inner_of, seal_in, unsealed, sealed_reply}
 

@@ -6,7 +6,6 @@ use Rattle.value.proofs.Blocks.{four_back}
 use Rattle.value.proofs.Words.{listed, word_bytes}
 use Rattle.tally.specs.Bytes.{eight_at, eight_of, figures_in, figures_bytes}
 use Rattle.tally.specs.Cross.{BytesBack, FiguresBack}
-use Rattle.tally.specs.declared.change.Figures.{Figures}
 
 -- four bytes are those of the word that they make
 four_of_lem : (a b c d : ℕ) → a < 256 → b < 256 → c < 256 → d < 256 → four_of (word_of a b c d) ≡ a ∷ b ∷ c ∷ d ∷ []

@@ -1,5 +1,4 @@
 -- The fresh session of `fresh`.
-use borrow.Author.Rules.{rules}
 use Rattle.card.proofs.field_reset.Goals as goal
 
 pub returns : goal.returns

@@ -1,5 +1,4 @@
 -- Neither number puts anything on the air.
-use borrow.Author.Rules.{rules}
 use borrow.Author.Tests.{eq-eqb, ne_eqb}
 use Rattle.card.specs.Effects.{refused_sign}
 use Rattle.card.specs.Step.{no_session_of}

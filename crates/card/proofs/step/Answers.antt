@@ -3,7 +3,6 @@ use mathlib.Core.Path.{◌∙◌}
 use Rattle.judge.specs.Judge.{judge_of}
 use Rattle.card.specs.Step.{answer_of, image_after}
 use Rattle.card.proofs.Short.{short_answer, short_image}
-use borrow.Author.Rules.{rules}
 use Rattle.card.proofs.step.Goals as goal
 
 pub returns : goal.returns

@@ -2,7 +2,6 @@
 use mathlib.Core.Path.{refl, sym, ◌∙◌, ap}
 use Rattle.sealed.specs.Sealed.{sealed_of}
 use Rattle.cardchip.specs.CardChip.{card_sealed_of, card_sealed_image}
-use borrow.Author.Rules.{rules}
 use Rattle.cardchip.proofs.tirlwheel_card_sealed_frame.Goals as goal
 
 pub returns-in-Card : goal.returns-in-Card

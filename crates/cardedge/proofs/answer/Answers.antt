@@ -5,7 +5,6 @@ use Rattle.judge.specs.Checks.{incoherent}
 use Rattle.record.specs.Record.{stray_of}
 use Rattle.record.proofs.Laws.{session_found, session_missing}
 use Rattle.either_card.proofs.Stray.{no_session_bare}
-use borrow.Author.Rules.{rules}
 use Rattle.cardedge.proofs.answer.Goals as goal
 
 pub returns-in-Session : goal.returns-in-Session

@@ -1,7 +1,6 @@
 -- By what the four bytes hold.
 use mathlib.Core.Path.{refl, sym, ◌∙◌}
 use Rattle.cardedge.specs.CardEdge.{card_frame_of, card_frame_image}
-use borrow.Author.Rules.{rules}
 use Rattle.cardedge.proofs.tirlwheel_card_frame.Goals as goal
 
 pub returns-in-Card : goal.returns-in-Card

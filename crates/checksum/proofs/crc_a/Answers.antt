@@ -1,8 +1,8 @@
 -- The loop's invariant: what is left, fed to the register as it stands, gives the checksum. The measure is the number of bytes left.
-use mathlib.Core.Path.{◌≡◌, refl, ◌∙◌}
-use Prim.Native.Nat.{◌≤◌, ◌-◌}
+use mathlib.Core.Path.{refl, ◌∙◌}
+use Prim.Native.Nat.{◌≤◌}
 use native.Mathlib.Omega.{arith}
-use lib.ListN.{length, drop, drop_of_length-le}
+use lib.ListN.{length, drop_of_length-le}
 use Rattle.checksum.specs.Checksum.{bytes_on, crc_of}
 use Rattle.checksum.proofs.Turn.{turn}
 use borrow.Author.Rules.{rules}

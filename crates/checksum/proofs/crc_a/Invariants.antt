@@ -1,10 +1,7 @@
-use mathlib.Core.Path.{◌≡◌, refl, ◌∙◌}
+use mathlib.Core.Path.{◌≡◌}
 use Prim.Native.Nat.{◌≤◌, ◌-◌}
-use native.Mathlib.Omega.{arith}
-use lib.ListN.{length, drop, drop_of_length-le}
+use lib.ListN.{length, drop}
 use Rattle.checksum.specs.Checksum.{bytes_on, crc_of}
-use Rattle.checksum.proofs.Turn.{turn}
-use borrow.Author.Rules.{rules}
 use Rattle.checksum.proofs.crc_a.Given as goal
 
 abbrev pub invariant-loop-i : goal.invariant-loop-i

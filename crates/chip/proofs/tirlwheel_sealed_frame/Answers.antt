@@ -2,7 +2,6 @@
 use mathlib.Core.Path.{◌≡◌, sym, ◌∙◌}
 use Rattle.chip.specs.Chip.{chip_answer, chip_image}
 use Rattle.chip.proofs.Laws.{with_session, without_session}
-use borrow.Author.Rules.{rules}
 use Rattle.chip.proofs.tirlwheel_sealed_frame.Goals as goal
 use Rattle.chip.proofs.tirlwheel_sealed_frame.Goals.{in-Session, in-Nothing}
 

@@ -1,6 +1,4 @@
 -- The four parts of the answer, each as it was promised.
-use mathlib.Core.Path.{◌≡◌}
-use borrow.Author.Rules.{rules}
 use Rattle.desk.proofs.tirlwheel_lookup.Goals as goal
 
 pub returns : goal.returns

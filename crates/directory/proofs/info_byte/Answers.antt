@@ -1,7 +1,6 @@
 -- The second byte of the part's first block.
 use mathlib.Core.Path.{◌∙◌}
 use Rattle.directory.proofs.Places.{info_first, info_second}
-use borrow.Author.Rules.{rules}
 use Rattle.directory.proofs.info_byte.Goals as goal
 
 pub returns-in-First : goal.returns-in-First

@@ -1,7 +1,6 @@
 -- The byte and the sectors are handed on.
 use mathlib.Core.Path.{◌∙◌}
 use Rattle.directory.specs.Directory.{version_of}
-use borrow.Author.Rules.{rules}
 use Rattle.directory.proofs.version_of.Goals as goal
 
 pub returns : goal.returns

@@ -1,6 +1,5 @@
 -- What `give` hands over is the answer to a field reset.
 use mathlib.Core.Path.{◌∙◌}
-use borrow.Author.Rules.{rules}
 use Rattle.edge.proofs.tirlwheel_field_reset.Goals as goal
 
 pub returns : goal.returns

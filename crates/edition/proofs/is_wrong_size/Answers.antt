@@ -1,6 +1,4 @@
 -- By the edition.
-use borrow.Author.Rules.{rules}
-use Rattle.edition.proofs.is_wrong_size.Reads as reads
 use Rattle.edition.proofs.is_wrong_size.Goals as goal
 
 pub returns-in-Old : goal.returns-in-Old

@@ -1,7 +1,5 @@
 -- By the code.
-use borrow.Author.Tests.{ne_eqb}
 use Rattle.edition.specs.Edition.{usage_of}
-use Rattle.edition.proofs.usage_of.Reads as reads
 use Rattle.std.proofs.Common.{tests, rules}
 use Rattle.edition.proofs.usage_of.Goals as goal
 

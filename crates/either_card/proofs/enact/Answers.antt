@@ -1,13 +1,6 @@
 -- What the card does; an answer to a 40h is acknowledged.
-use mathlib.Core.Path.{sym, ◌∙◌}
+use mathlib.Core.Path.{◌∙◌}
 use Rattle.either_card.proofs.Laws.{personal_given, plain_given}
-use borrow.Author.Rules.{rules}
-use Rattle.either_card.proofs.enact.Reads as reads
-use Rattle.card.proofs.enact.Reads as enact-reads
-use Rattle.either_card.proofs.given.Reads as given-reads
-use Rattle.either_card.proofs.personal.acknowledged.Reads as acknowledged-reads
-use Rattle.either_card.proofs.personal.is_personal.Reads as is-personal-reads
-use Rattle.frame.proofs.byte.Reads as byte-Reads
 use Rattle.either_card.proofs.enact.Goals as goal
 
 pub returns-then-is_personal : goal.returns-then-is_personal

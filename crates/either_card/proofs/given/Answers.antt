@@ -1,8 +1,5 @@
 -- The answer, and the value of its NAK.
 use Rattle.either_card.specs.Code.{given_of}
-use borrow.Author.Rules.{rules}
-use Rattle.either_card.proofs.given.Reads as reads
-use Rattle.either_card.proofs.nak.nak_of.Reads as nak-of-reads
 use Rattle.either_card.proofs.given.Goals as goal
 
 pub returns : goal.returns

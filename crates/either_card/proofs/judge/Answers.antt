@@ -1,14 +1,6 @@
 -- 11; then a 40h; then any other frame by the card.
 use mathlib.Core.Path.{sym, ◌∙◌}
 use Rattle.either_card.proofs.Laws.{wrong_size_act, personal_act, other_act}
-use borrow.Author.Rules.{rules}
-use Rattle.either_card.proofs.judge.Reads as reads
-use Rattle.edition.proofs.is_wrong_size.Reads as is-wrong-size-reads
-use Rattle.either_card.proofs.personal.choosing.Reads as choosing-reads
-use Rattle.either_card.proofs.personal.is_personal.Reads as is-personal-reads
-use Rattle.either_card.proofs.personal.refusal_of.Reads as refusal-of-reads
-use Rattle.frame.proofs.byte.Reads as byte-Reads
-use Rattle.judge.proofs.judge.Reads as judge-reads
 use Rattle.either_card.proofs.judge.Goals as goal
 
 pub returns-then-is_wrong_size : goal.returns-then-is_wrong_size

@@ -1,10 +1,5 @@
 -- 11 for an EV1 of another size, or the old answer.
 use Rattle.either_card.specs.Either.{card_no_session_of}
-use borrow.Author.Rules.{rules}
-use Rattle.either_card.proofs.no_session.Reads as reads
-use Rattle.card.proofs.no_session.Reads as no-session-reads
-use Rattle.card.proofs.refusal.Reads as refusal-reads
-use Rattle.edition.proofs.is_wrong_size.Reads as is-wrong-size-reads
 use Rattle.either_card.proofs.no_session.Goals as goal
 
 pub returns-then-is_wrong_size : goal.returns-then-is_wrong_size

@@ -3,10 +3,6 @@ use mathlib.Core.Path.{◌∙◌}
 use Rattle.card.proofs.Short.{short_image}
 use Rattle.either_card.specs.Either.{card_act_of, card_answer_of, card_image_after}
 use Rattle.either_card.proofs.Laws.{short_given}
-use borrow.Author.Rules.{rules}
-use Rattle.either_card.proofs.step.Reads as reads
-use Rattle.either_card.proofs.enact.Reads as enact-reads
-use Rattle.either_card.proofs.judge.Reads as judge-reads
 use Rattle.either_card.proofs.step.Goals as goal
 
 pub returns : goal.returns

@@ -2,7 +2,6 @@
 use mathlib.Core.Path.{refl, sym}
 use lib.ListN.{get_or-eq_default}
 use Rattle.frame.specs.Command.{byte_in}
-use borrow.Author.Rules.{rules}
 use Rattle.frame.proofs.byte.Goals as goal
 
 pub returns-then-i-frame : goal.returns-then-i-frame

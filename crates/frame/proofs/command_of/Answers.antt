@@ -2,7 +2,6 @@
 use mathlib.Core.Path.{◌∙◌}
 use borrow.Author.Tests.{eq-eqb, ne_eqb}
 use Rattle.frame.specs.Command.{command_of}
-use borrow.Author.Rules.{rules}
 use Rattle.frame.proofs.command_of.Goals as goal
 
 pub returns-in-Idle : goal.returns-in-Idle

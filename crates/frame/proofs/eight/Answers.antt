@@ -1,5 +1,4 @@
 -- `eight` goes by the code.
-use borrow.Author.Tests.{ne_eqb}
 use Rattle.frame.specs.Command.{eight_bytes_of}
 use Rattle.std.proofs.Common.{tests, rules}
 use Rattle.frame.proofs.eight.Goals as goal

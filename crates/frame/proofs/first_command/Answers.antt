@@ -2,7 +2,6 @@
 use mathlib.Core.Path.{◌∙◌}
 use borrow.Author.Tests.{eq-eqb, ne_eqb}
 use Rattle.frame.specs.Command.{byte_in, first_of}
-use borrow.Author.Rules.{rules}
 use Rattle.frame.proofs.first_command.Goals as goal
 
 pub returns-then-n-eq8 : goal.returns-then-n-eq8

@@ -6,7 +6,6 @@ use Rattle.judge.specs.Judge.{judge_of, commanded_of, done_of}
 use Rattle.judge.specs.Code.{shortened}
 use Rattle.judge.proofs.Lists.{is_memory_lem}
 use Rattle.judge.proofs.Shortcut.{authenticated, coded}
-use borrow.Author.Rules.{rules}
 use Rattle.judge.proofs.judge.Goals as goal
 
 pub perform-requires : goal.perform-requires

@@ -1,5 +1,4 @@
 -- The record's own refusal, and the figures as they came.
-use borrow.Author.Rules.{rules}
 use Rattle.kept.proofs.no_session.Goals as goal
 
 pub returns : goal.returns

@@ -1,8 +1,7 @@
 -- The act of the frame, or 11, 12 or 29 for figures outside their ranges; then what it settles, and what is left of it.
-use mathlib.Core.Path.{sym, ◌∙◌}
+use mathlib.Core.Path.{◌∙◌}
 use mathlib.Core.Logic.{inl, inr}
 use Rattle.kept.proofs.Laws.{step_way}
-use borrow.Author.Rules.{rules}
 use Rattle.kept.proofs.step.Goals as goal
 use Rattle.kept.proofs.step.Goals.{then-in_range, else-in_range}
 

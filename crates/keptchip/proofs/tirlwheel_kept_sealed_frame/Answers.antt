@@ -1,7 +1,6 @@
 -- By what the four bytes hold.
 use mathlib.Core.Path.{refl, sym, ◌∙◌}
 use Rattle.keptchip.specs.KeptChip.{kept_sealed_of, kept_sealed_image}
-use borrow.Author.Rules.{rules}
 use Rattle.keptchip.proofs.tirlwheel_kept_sealed_frame.Goals as goal
 
 pub returns-in-Card : goal.returns-in-Card

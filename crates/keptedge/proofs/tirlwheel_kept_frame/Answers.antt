@@ -1,7 +1,6 @@
 -- By what the four bytes hold.
 use mathlib.Core.Path.{refl, sym, ◌∙◌}
 use Rattle.keptedge.specs.KeptEdge.{kept_frame_of, kept_frame_image}
-use borrow.Author.Rules.{rules}
 use Rattle.keptedge.proofs.tirlwheel_kept_frame.Goals as goal
 
 pub returns-in-Card : goal.returns-in-Card

@@ -5,7 +5,6 @@ use Prim.Native.Nat.{ℕ, ◌/◌}
 use native.Mathlib.Omega.{arith}
 use lib.Dec.{eqb}
 use borrow.Author.Tests.{eqb-true, eqb-false, not-true, not-false}
-use borrow.Author.Rules.{rules}
 use Rattle.layout.specs.Layout.{sectors_of, blocks_of}
 use Rattle.layout.proofs.Laws.{no_blocks, card_bytes}
 use Rattle.layout.proofs.blocks_of.Goals as goal

@@ -1,7 +1,6 @@
 -- The four ways out of `group_at` are the four groups.
 use borrow.Author.Tests.{lt-ltb, le-ltb}
 use Rattle.layout.specs.Layout.{group_at}
-use borrow.Author.Rules.{rules}
 use Rattle.layout.proofs.group_at.Goals as goal
 
 pub returns-then-place-n : goal.returns-then-place-n

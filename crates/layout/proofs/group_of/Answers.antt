@@ -2,7 +2,6 @@
 use mathlib.Core.Path.{◌∙◌}
 use borrow.Author.Tests.{lt-ltb, le-ltb}
 use Rattle.layout.specs.Layout.{group_of}
-use borrow.Author.Rules.{rules}
 use Rattle.layout.proofs.group_of.Goals as goal
 
 pub returns-then-n-lt128 : goal.returns-then-n-lt128

@@ -1,6 +1,5 @@
 -- `has_block` compares with what `blocks_of` promises.
 use Rattle.layout.specs.Layout.{has_block}
-use borrow.Author.Rules.{rules}
 use Rattle.layout.proofs.has_block.Goals as goal
 
 pub returns : goal.returns

@@ -1,6 +1,5 @@
 -- `has_sector` compares with what `sectors_of` promises.
 use Rattle.layout.specs.Layout.{has_sector}
-use borrow.Author.Rules.{rules}
 use Rattle.layout.proofs.has_sector.Goals as goal
 
 pub returns : goal.returns

@@ -1,6 +1,5 @@
 -- `is_trailer` compares the block with the trailer of its sector.
 use Rattle.layout.specs.Layout.{is_trailer}
-use borrow.Author.Rules.{rules}
 use Rattle.layout.proofs.is_trailer.Goals as goal
 
 pub returns : goal.returns

@@ -1,7 +1,6 @@
 -- The two ways out of `sector_of` are the small and the large sectors.
 use borrow.Author.Tests.{lt-ltb, le-ltb}
 use Rattle.layout.specs.Layout.{sector_of}
-use borrow.Author.Rules.{rules}
 use Rattle.layout.proofs.sector_of.Goals as goal
 
 pub returns-then-n-lt128 : goal.returns-then-n-lt128

@@ -1,7 +1,6 @@
 -- The ways out of `trailer_of` are the small sectors, the large ones and the sectors that no card has.
 use borrow.Author.Tests.{lt-ltb, le-ltb}
 use Rattle.layout.specs.Layout.{trailer_of}
-use borrow.Author.Rules.{rules}
 use Rattle.layout.proofs.trailer_of.Goals as goal
 
 pub returns-then-n-lt32 : goal.returns-then-n-lt32

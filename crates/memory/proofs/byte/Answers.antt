@@ -1,6 +1,5 @@
 -- Each way out of `byte` is a law of `byte_of`.
 use Rattle.memory.proofs.Ways.{index, byte_in_lem, byte_past, byte_none}
-use borrow.Author.Rules.{rules}
 use Rattle.memory.proofs.byte.Goals as goal
 
 pub bounds-image-at : goal.bounds-image-at

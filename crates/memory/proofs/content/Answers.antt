@@ -1,6 +1,5 @@
 -- The part that is copied is the block; without the block, zeros.
 use Rattle.memory.proofs.Ways.{part_end, content_in, content_none}
-use borrow.Author.Rules.{rules}
 use Rattle.memory.proofs.content.Goals as goal
 
 pub slice_bounds-copied-end : goal.slice_bounds-copied-end

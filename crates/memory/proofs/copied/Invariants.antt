@@ -1,8 +1,6 @@
-use mathlib.Core.Path.{◌≡◌, refl}
+use mathlib.Core.Path.{◌≡◌}
 use Prim.Native.Nat.{◌≤◌, ◌-◌}
-use lib.ListN.{length, take, length-set}
-use Rattle.memory.proofs.Copy.{copy_step, copy_done}
-use borrow.Author.Rules.{rules}
+use lib.ListN.{length, take}
 use Rattle.memory.proofs.copied.Given as goal
 
 abbrev pub invariant-loop-i : goal.invariant-loop-i

@@ -1,7 +1,6 @@
 -- The loop's invariant: the first i bytes are written. The measure is what is left of sixteen.
-use mathlib.Core.Path.{◌≡◌, refl, ◌∙◌}
-use Prim.Native.Nat.{◌≤◌, ◌-◌}
-use lib.ListN.{length, take, length-set}
+use mathlib.Core.Path.{refl, ◌∙◌}
+use lib.ListN.{length-set}
 use lib.Seq.{take_all}
 use Rattle.memory.proofs.Copy.{copy_step, copy_done}
 use borrow.Author.Rules.{rules}

@@ -2,7 +2,6 @@
 use mathlib.Core.Path.{◌∙◌}
 use borrow.Author.Tests.{le-leb, lt-leb}
 use Rattle.memory.specs.Memory.{sixteen_of}
-use borrow.Author.Rules.{rules}
 use Rattle.memory.proofs.sixteen.Goals as goal
 
 pub returns-then-bytes-ge16 : goal.returns-then-bytes-ge16

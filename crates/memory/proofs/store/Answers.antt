@@ -1,6 +1,5 @@
 -- The part that is lent to the block writer is the block; without the block, nothing is lent.
 use Rattle.memory.proofs.Ways.{part_end, store_in, store_none}
-use borrow.Author.Rules.{rules}
 use Rattle.memory.proofs.store.Goals as goal
 
 pub slice_bounds-overwrite-end : goal.slice_bounds-overwrite-end

@@ -1,9 +1,6 @@
-use mathlib.Core.Path.{◌≡◌, refl, sym, ◌∙◌}
+use mathlib.Core.Path.{◌≡◌}
 use Prim.Native.Nat.{◌≤◌, ◌-◌}
-use lib.ListN.{length, take, length-set}
-use lib.Seq.{take_all}
-use Rattle.memory.proofs.Copy.{copy_step}
-use borrow.Author.Rules.{rules}
+use lib.ListN.{length, take}
 use Rattle.play.proofs.copy_in.Given as goal
 
 abbrev pub invariant-loop-i : goal.invariant-loop-i

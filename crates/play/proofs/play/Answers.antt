@@ -1,7 +1,6 @@
 -- The old script, on an old card.
 use Rattle.play.specs.Run.{reading_for}
 use Rattle.play.specs.Printout.{printout_of}
-use borrow.Author.Rules.{rules}
 use Rattle.play.proofs.play.Goals as goal
 
 pub print-requires : goal.print-requires

@@ -3,7 +3,6 @@ use mathlib.Core.Path.{ap}
 use Rattle.script.specs.Lock.{ev1_script_of}
 use Rattle.play.specs.Run.{reading_for, ev1_card_of}
 use Rattle.play.specs.Printout.{ev1_printout_of}
-use borrow.Author.Rules.{rules}
 use Rattle.play.proofs.play_ev1.Goals as goal
 
 pub print-requires : goal.print-requires

@@ -5,7 +5,6 @@ use Prim.Native.Nat.{ℕ}
 use native.Mathlib.Omega.{arith}
 use lib.ListN.{length}
 use Rattle.play.proofs.Whole.{image_length, assembled, events_ready, blocks_ready}
-use borrow.Author.Rules.{rules}
 use Rattle.play.proofs.put_run.Goals as goal
 
 pub copy_in-requires : goal.copy_in-requires

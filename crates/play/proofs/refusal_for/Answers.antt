@@ -2,7 +2,6 @@
 use mathlib.Core.Path.{◌∙◌, ap}
 use Rattle.script.specs.Lock.{ev1_script_of}
 use Rattle.play.specs.Run.{reading_for}
-use borrow.Author.Rules.{rules}
 use Rattle.play.proofs.refusal_for.Goals as goal
 
 pub returns-in-Old : goal.returns-in-Old

@@ -1,7 +1,6 @@
 -- By what was found.
 use mathlib.Core.Path.{◌∙◌}
 use Rattle.reader.specs.Reader.{bytes_of}
-use borrow.Author.Rules.{rules}
 use Rattle.reader.proofs.bytes_of.Goals as goal
 
 pub returns-in-Event : goal.returns-in-Event

@@ -1,7 +1,6 @@
 -- The tests in their order.
 use borrow.Author.Tests.{lt-ltb, le-ltb, eq-eqb, ne_eqb}
 use Rattle.reader.specs.Reader.{found_at}
-use borrow.Author.Rules.{rules}
 use Rattle.reader.proofs.found_at.Goals as goal
 
 pub returns-then-script-at : goal.returns-then-script-at

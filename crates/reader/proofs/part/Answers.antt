@@ -2,7 +2,6 @@
 use mathlib.Core.Path.{refl}
 use native.Mathlib.Omega.{arith}
 use Rattle.reader.proofs.Ways.{part_past, part_whole}
-use borrow.Author.Rules.{rules}
 use Rattle.reader.proofs.part.Goals as goal
 
 pub returns-then-script-start : goal.returns-then-script-start

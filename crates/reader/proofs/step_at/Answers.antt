@@ -1,5 +1,4 @@
 -- What was found, and the next place.
-use borrow.Author.Rules.{rules}
 use Rattle.reader.proofs.step_at.Goals as goal
 
 pub returns : goal.returns

@@ -1,6 +1,5 @@
 -- What the bytes name, where they are a record.
 use Rattle.record.specs.Record.{found_in}
-use borrow.Author.Rules.{rules}
 use Rattle.record.proofs.decode.Goals as goal
 
 pub returns-then-is_record : goal.returns-then-is_record

@@ -1,6 +1,5 @@
 -- Each byte by the code of its part.
 use Rattle.record.specs.Record.{record_of}
-use borrow.Author.Rules.{rules}
 use Rattle.record.proofs.encode.Goals as goal
 
 pub returns : goal.returns

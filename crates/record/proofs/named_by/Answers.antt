@@ -1,6 +1,5 @@
 -- Each part by its codes.
 use Rattle.record.specs.Record.{named_by}
-use borrow.Author.Rules.{rules}
 use Rattle.record.proofs.named_by.Goals as goal
 
 pub returns : goal.returns

@@ -1,14 +1,6 @@
 -- The refusals in reading order.
-use mathlib.Core.Path.{sym, ◌∙◌, ap}
+use mathlib.Core.Path.{◌∙◌}
 use Rattle.script.proofs.Ways.{too_short, foreign_size, no_image, no_count, too_many, all_events}
-use native.Mathlib.Omega.{arith}
-use borrow.Author.Rules.{rules}
-use Rattle.script.proofs.body.Reads as reads
-use Rattle.script.proofs.event_count.Reads as event-count-reads
-use Rattle.script.proofs.events_start.Reads as events-start-reads
-use Rattle.script.proofs.image_size.Reads as image-size-reads
-use Rattle.script.proofs.is_no_size.Reads as is-no-size-reads
-use Rattle.script.proofs.walk.Reads as walk-reads
 use Rattle.script.proofs.body.Goals as goal
 
 pub returns-then-len-lt2 : goal.returns-then-len-lt2

@@ -1,7 +1,6 @@
 -- Two bytes make the count.
 use native.Mathlib.Omega.{arith}
 use Rattle.script.specs.Script.{count_at}
-use borrow.Author.Rules.{rules}
 use Rattle.script.proofs.count_at.Goals as goal
 
 pub returns : goal.returns

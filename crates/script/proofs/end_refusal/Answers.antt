@@ -1,7 +1,6 @@
 -- A walk that came to a place, before the end or at it; and one that was stopped.
 use borrow.Author.Tests.{lt-ltb, le-ltb}
 use Rattle.script.specs.Script.{end_refusal}
-use borrow.Author.Rules.{rules}
 use Rattle.script.proofs.end_refusal.Goals as goal
 
 pub returns-then-at-len : goal.returns-then-at-len

@@ -1,7 +1,6 @@
 -- The count after the image.
 use mathlib.Core.Path.{◌∙◌}
 use Rattle.script.specs.Script.{event_count}
-use borrow.Author.Rules.{rules}
 use Rattle.script.proofs.event_count.Goals as goal
 
 pub returns : goal.returns

@@ -1,7 +1,6 @@
 -- The tests in their order.
 use borrow.Author.Tests.{lt-ltb, le-ltb}
 use Rattle.script.specs.Script.{event_refusal}
-use borrow.Author.Rules.{rules}
 use Rattle.script.proofs.event_refusal.Goals as goal
 
 pub returns-then-script-at : goal.returns-then-script-at

@@ -1,6 +1,5 @@
 -- After that count.
 use Rattle.script.specs.Script.{events_start}
-use borrow.Author.Rules.{rules}
 use Rattle.script.proofs.events_start.Goals as goal
 
 pub returns : goal.returns

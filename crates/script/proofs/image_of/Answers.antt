@@ -1,7 +1,6 @@
 -- The part after its count, where it is whole.
 use mathlib.Core.Path.{refl}
 use Rattle.script.proofs.Ways.{image_whole, image_short}
-use borrow.Author.Rules.{rules}
 use Rattle.script.proofs.image_of.Goals as goal
 
 pub returns-then-end-script : goal.returns-then-end-script

@@ -1,6 +1,5 @@
 -- The count at the start.
 use Rattle.script.specs.Script.{image_size}
-use borrow.Author.Rules.{rules}
 use Rattle.script.proofs.image_size.Goals as goal
 
 pub returns : goal.returns

@@ -1,6 +1,5 @@
 -- Past the event's bytes.
 use Rattle.script.proofs.Ways.{next_in, next_past}
-use borrow.Author.Rules.{rules}
 use Rattle.script.proofs.next_at.Goals as goal
 
 pub returns-then-at-script : goal.returns-then-at-script

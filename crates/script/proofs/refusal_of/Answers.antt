@@ -2,10 +2,6 @@
 use mathlib.Core.Path.{◌∙◌}
 use Rattle.script.specs.Script.{reading_of}
 use Rattle.script.proofs.Ways.{end_reading}
-use borrow.Author.Rules.{rules}
-use Rattle.script.proofs.refusal_of.Reads as reads
-use Rattle.script.proofs.body.Reads as body-Reads
-use Rattle.script.proofs.end_refusal.Reads as end-refusal-reads
 use Rattle.script.proofs.refusal_of.Goals as goal
 
 pub returns : goal.returns

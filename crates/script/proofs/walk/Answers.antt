@@ -1,8 +1,6 @@
 -- The loop's invariant: what is left to walk comes to what the whole comes to. The measure is the events left.
-use mathlib.Core.Path.{◌≡◌, refl, ◌∙◌}
-use Rattle.script.specs.Script.{events_from, place_of}
+use mathlib.Core.Path.{refl, ◌∙◌}
 use Rattle.script.proofs.Ways.{stops, goes_on, all_walked}
-use borrow.Author.Rules.{rules}
 use Rattle.script.proofs.walk.Goals as goal
 
 pub loop-left-init : goal.loop-left-init

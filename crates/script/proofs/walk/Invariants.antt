@@ -1,7 +1,5 @@
-use mathlib.Core.Path.{◌≡◌, refl, ◌∙◌}
+use mathlib.Core.Path.{◌≡◌}
 use Rattle.script.specs.Script.{events_from, place_of}
-use Rattle.script.proofs.Ways.{stops, goes_on, all_walked}
-use borrow.Author.Rules.{rules}
 use Rattle.script.proofs.walk.Given as goal
 
 abbrev pub invariant-loop-left : goal.invariant-loop-left

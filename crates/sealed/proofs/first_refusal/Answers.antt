@@ -2,7 +2,6 @@
 use borrow.Author.Tests.{eq-eqb, ne_eqb}
 use Rattle.judge.specs.First.{first}
 use Rattle.judge.specs.Checks.{no_card, incoherent, frame_checks}
-use borrow.Author.Rules.{rules}
 use Rattle.sealed.proofs.first_refusal.Goals as goal
 
 pub returns-then-sectors_of-eq0 : goal.returns-then-sectors_of-eq0

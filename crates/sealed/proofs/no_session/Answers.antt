@@ -1,7 +1,6 @@
 -- The bare answer, with its reply extended.
 use mathlib.Core.Path.{◌∙◌, ap}
 use Rattle.sealed.specs.Sealed.{sealed_of, sealed_no_session_of}
-use borrow.Author.Rules.{rules}
 use Rattle.sealed.proofs.no_session.Goals as goal
 
 pub returns : goal.returns

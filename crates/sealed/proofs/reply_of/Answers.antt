@@ -2,7 +2,6 @@
 use mathlib.Core.Path.{◌∙◌}
 use Rattle.sealed.specs.Sealed.{sealed_reply}
 use Rattle.sealed.proofs.Ways.{no_data_lem}
-use borrow.Author.Rules.{rules}
 use Rattle.sealed.proofs.reply_of.Goals as goal
 
 pub returns-in-Data : goal.returns-in-Data

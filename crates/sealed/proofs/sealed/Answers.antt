@@ -1,6 +1,5 @@
 -- Only the reply is another.
 use Rattle.sealed.specs.Sealed.{sealed_of}
-use borrow.Author.Rules.{rules}
 use Rattle.sealed.proofs.sealed.Goals as goal
 
 pub returns : goal.returns

@@ -1,6 +1,5 @@
 -- The bare answer to the inner bytes, or the refusal.
 use mathlib.Core.Path.{◌≡◌, sym, ap, ◌∙◌}
-use mathlib.Core.Logic.{⊎_elim}
 use lib.Seq.{length-take-le}
 use Rattle.card.specs.Step.{answered}
 use Rattle.sealed.specs.Sealed.{inner_of, sealed_act_of, sealed_of, sealed_answer_of, sealed_image_after}

@@ -1,6 +1,5 @@
 -- `in_sector` goes by the cases of its definition.
 use Rattle.session.specs.Session.{in_sector}
-use borrow.Author.Rules.{rules}
 use Rattle.session.proofs.in_sector.Goals as goal
 
 pub returns-in-Nobody : goal.returns-in-Nobody

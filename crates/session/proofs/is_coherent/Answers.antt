@@ -1,7 +1,6 @@
 -- `is_coherent` goes by whether there is an authenticated sector.
 use mathlib.Core.Path.{◌∙◌}
 use Rattle.session.specs.Session.{coherent_of}
-use borrow.Author.Rules.{rules}
 use Rattle.session.proofs.is_coherent.Goals as goal
 
 pub returns-in-Nobody : goal.returns-in-Nobody

@@ -1,6 +1,5 @@
 -- `bits_of` is blocked, or the bits of the group asked for.
 use Rattle.access.specs.Bits.{bits_of, group_bits, bit_of}
-use borrow.Author.Rules.{rules}
 use Rattle.access.proofs.bits.bits_of.Goals as goal
 
 pub returns-in-First : goal.returns-in-First

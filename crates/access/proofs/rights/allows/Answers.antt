@@ -1,6 +1,5 @@
 -- `allows` goes by the cases of its definition.
 use Rattle.access.specs.Rights.{allows_of}
-use borrow.Author.Rules.{rules}
 use Rattle.access.proofs.rights.allows.Goals as goal
 
 pub returns-in-Never : goal.returns-in-Never

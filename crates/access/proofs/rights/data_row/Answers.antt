@@ -3,7 +3,6 @@ use Prim.Native.Nat.{ℕ, ◌%◌}
 use native.Mathlib.Omega.{arith}
 use Rattle.access.specs.Rights.{look_up, no_data, data_table, data_row}
 use Rattle.access.proofs.Eight.{indexed}
-use borrow.Author.Rules.{rules}
 use Rattle.access.proofs.rights.data_row.Goals as goal
 
 pub returns : goal.returns

@@ -1,7 +1,6 @@
 -- `is_mute` is the readable key B rule.
 use mathlib.Core.Path.{◌∙◌}
 use Rattle.access.specs.Rights.{mute_of}
-use borrow.Author.Rules.{rules}
 use Rattle.access.proofs.rights.is_mute.Goals as goal
 
 pub returns-in-KeyA : goal.returns-in-KeyA

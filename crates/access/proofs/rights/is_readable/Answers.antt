@@ -1,6 +1,5 @@
 -- `is_readable` reads the row's last column.
 use Rattle.access.specs.Rights.{readable_of}
-use borrow.Author.Rules.{rules}
 use Rattle.access.proofs.rights.is_readable.Goals as goal
 
 pub returns : goal.returns

@@ -1,6 +1,5 @@
 -- `keys_for` goes by the cases of its definition.
 use Rattle.access.specs.Rights.{keys_for}
-use borrow.Author.Rules.{rules}
 use Rattle.access.proofs.rights.keys_for.Goals as goal
 
 pub returns-in-Read : goal.returns-in-Read

@@ -1,6 +1,5 @@
 -- `may` chains what its three callees promise.
 use Rattle.access.specs.Rights.{may_of}
-use borrow.Author.Rules.{rules}
 use Rattle.access.proofs.rights.may.Goals as goal
 
 pub returns : goal.returns

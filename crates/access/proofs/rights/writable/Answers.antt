@@ -1,6 +1,5 @@
 -- `writable` asks `allows` for each part.
 use Rattle.access.specs.Rights.{writable_of}
-use borrow.Author.Rules.{rules}
 use Rattle.access.proofs.rights.writable.Goals as goal
 
 pub returns : goal.returns

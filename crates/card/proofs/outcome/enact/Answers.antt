@@ -2,7 +2,6 @@
 use mathlib.Core.Path.{◌∙◌}
 use Rattle.card.specs.Effects.{number_of, sign_of, reply_of, session_of, image_of}
 use Rattle.card.specs.Step.{answered}
-use borrow.Author.Rules.{rules}
 use Rattle.card.proofs.outcome.enact.Goals as goal
 
 pub returns-in-Refused : goal.returns-in-Refused

@@ -1,5 +1,4 @@
 -- The number and its sign; nothing else is left.
-use borrow.Author.Rules.{rules}
 use Rattle.card.proofs.outcome.refusal.Goals as goal
 
 pub returns : goal.returns

@@ -1,7 +1,6 @@
 -- Each part from the new bytes or the old.
 use mathlib.Core.Path.{◌∙◌}
 use Rattle.card.specs.Trailer.{mixed_of}
-use borrow.Author.Rules.{rules}
 use Rattle.card.proofs.trailer.mixed.Goals as goal
 
 pub returns : goal.returns

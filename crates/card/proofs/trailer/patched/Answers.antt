@@ -1,7 +1,7 @@
 -- The loop's invariant: the bytes from the first place up to i are those of y. The measure is what is left.
 use mathlib.Core.Path.{◌≡◌, ◌∙◌, ap}
-use Prim.Native.Nat.{ℕ, ◌-◌, ◌≤◌}
-use lib.ListN.{length, length-set}
+use Prim.Native.Nat.{ℕ, ◌-◌}
+use lib.ListN.{length-set}
 use Rattle.card.specs.Code.{patched_of}
 use Rattle.card.proofs.Join.{patch_none, patch_step}
 use borrow.Author.Rules.{rules}

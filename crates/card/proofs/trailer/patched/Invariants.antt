@@ -1,9 +1,7 @@
-use mathlib.Core.Path.{◌≡◌, ◌∙◌, ap}
-use Prim.Native.Nat.{ℕ, ◌-◌, ◌≤◌}
-use lib.ListN.{length, length-set}
+use mathlib.Core.Path.{◌≡◌}
+use Prim.Native.Nat.{◌-◌, ◌≤◌}
+use lib.ListN.{length}
 use Rattle.card.specs.Code.{patched_of}
-use Rattle.card.proofs.Join.{patch_none, patch_step}
-use borrow.Author.Rules.{rules}
 use Rattle.card.proofs.trailer.patched.Given as goal
 
 abbrev pub invariant-loop-i : goal.invariant-loop-i

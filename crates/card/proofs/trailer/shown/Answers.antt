@@ -1,9 +1,7 @@
 -- The loop's invariant: the bytes up to i are as the sight shows them. The measure is what is left.
 use mathlib.Core.Path.{◌≡◌, ◌∙◌}
-use Prim.Native.Nat.{◌-◌, ◌≤◌}
-use lib.ListN.{length, length-set}
-use Rattle.card.specs.Code.{sight_of}
-use Rattle.card.proofs.Join.{blanked_of, blank_none, blank_step, blank_all}
+use lib.ListN.{length-set}
+use Rattle.card.proofs.Join.{blank_none, blank_step, blank_all}
 use borrow.Author.Rules.{rules}
 use Rattle.card.proofs.trailer.shown.Goals as goal
 

@@ -1,9 +1,8 @@
-use mathlib.Core.Path.{◌≡◌, ◌∙◌}
+use mathlib.Core.Path.{◌≡◌}
 use Prim.Native.Nat.{◌-◌, ◌≤◌}
-use lib.ListN.{length, length-set}
+use lib.ListN.{length}
 use Rattle.card.specs.Code.{sight_of}
-use Rattle.card.proofs.Join.{blanked_of, blank_none, blank_step, blank_all}
-use borrow.Author.Rules.{rules}
+use Rattle.card.proofs.Join.{blanked_of}
 use Rattle.card.proofs.trailer.shown.Given as goal
 
 abbrev pub invariant-loop-i : goal.invariant-loop-i

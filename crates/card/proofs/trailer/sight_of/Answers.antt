@@ -5,7 +5,6 @@ use native.Mathlib.Omega.{arith}
 use Rattle.access.specs.Rights.{is_yes, look_up, no_trailer, trailer_table, trailer_row, readable_of}
 use Rattle.access.proofs.Eight.{indexed}
 use Rattle.card.specs.Code.{sight_of}
-use borrow.Author.Rules.{rules}
 use Rattle.card.proofs.trailer.sight_of.Goals as goal
 
 pub returns : goal.returns

@@ -1,7 +1,6 @@
 -- `writable_by` goes by whether there is an authenticated sector.
 use mathlib.Core.Path.{◌∙◌}
 use Rattle.judge.specs.Checks.{writable_by}
-use borrow.Author.Rules.{rules}
 use Rattle.card.proofs.trailer.writable_by.Goals as goal
 
 pub returns-in-Nobody : goal.returns-in-Nobody

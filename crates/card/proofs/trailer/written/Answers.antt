@@ -1,6 +1,5 @@
 -- The parts by the bits of the trailer.
 use mathlib.Core.Path.{◌∙◌}
-use borrow.Author.Rules.{rules}
 use Rattle.card.proofs.trailer.written.Goals as goal
 
 pub returns : goal.returns

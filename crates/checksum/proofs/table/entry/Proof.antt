@@ -1,7 +1,7 @@
 -- Each of the 256 entries by computing both sides: an arm gives what eight shift steps make of its own number.
 use mathlib.Core.Path.{◌≡◌, sym, ap}
 use mathlib.Core.List.{[], ◌∷◌}
-use Prim.Native.Nat.{ℕ, zero, suc, ◌≤◌, ◌<◌}
+use Prim.Native.Nat.{ℕ, zero, suc, ◌≤◌}
 use native.Mathlib.Omega.{arith}
 use types.Run.{OneOf}
 use Rattle.checksum.specs.Checksum.{shifted, shifts}

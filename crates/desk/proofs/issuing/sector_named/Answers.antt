@@ -1,7 +1,6 @@
 -- Below 256 or not.
 use Rattle.desk.specs.Desk.{sector_named}
 use borrow.Author.Tests.{lt-ltb, le-ltb}
-use borrow.Author.Rules.{rules}
 use Rattle.desk.proofs.issuing.sector_named.Goals as goal
 
 pub returns-then-number-lt256 : goal.returns-then-number-lt256

@@ -1,6 +1,5 @@
 -- What was read of the sector that the number names.
 use mathlib.Core.Path.{◌∙◌, ap}
-use borrow.Author.Rules.{rules}
 use Rattle.desk.proofs.issuing.tirlwheel_read_access.Goals as goal
 
 pub returns : goal.returns

@@ -1,6 +1,5 @@
 -- Number and version in one, and what was lent as it was told.
-use mathlib.Core.Path.{◌∙◌, ap}
-use borrow.Author.Rules.{rules}
+use mathlib.Core.Path.{ap}
 use Rattle.desk.proofs.issuing.tirlwheel_read_directory.Goals as goal
 
 pub returns : goal.returns

@@ -1,6 +1,5 @@
 -- What was written to the sector that the number names.
 use mathlib.Core.Path.{◌∙◌}
-use borrow.Author.Rules.{rules}
 use Rattle.desk.proofs.issuing.tirlwheel_write_access.Goals as goal
 
 pub returns : goal.returns

@@ -1,7 +1,6 @@
 -- By what the four bytes hold.
 use mathlib.Core.Path.{◌∙◌}
 use Rattle.desk.specs.Opening.{opened_with}
-use borrow.Author.Rules.{rules}
 use Rattle.desk.proofs.opening.opened.Goals as goal
 
 pub returns-in-Card : goal.returns-in-Card

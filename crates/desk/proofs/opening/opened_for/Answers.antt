@@ -1,7 +1,6 @@
 -- 11 for an EV1 of another size, or the full count.
 use mathlib.Core.Path.{◌∙◌}
 use Rattle.desk.specs.Opening.{opened_for}
-use borrow.Author.Rules.{rules}
 use Rattle.desk.proofs.opening.opened_for.Goals as goal
 
 pub returns-then-is_wrong_size : goal.returns-then-is_wrong_size

@@ -1,6 +1,5 @@
 -- The number, and the figures as bytes.
 use mathlib.Core.Path.{◌∙◌}
-use borrow.Author.Rules.{rules}
 use Rattle.desk.proofs.opening.tirlwheel_open.Goals as goal
 
 pub returns : goal.returns

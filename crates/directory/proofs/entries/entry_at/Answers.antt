@@ -1,7 +1,6 @@
 -- Each way out is a law of the entry at a place.
 use mathlib.Core.Path.{◌∙◌}
 use Rattle.directory.proofs.Places.{no_place, first_place, second_place, past_places}
-use borrow.Author.Rules.{rules}
 use Rattle.directory.proofs.entries.entry_at.Goals as goal
 
 pub returns-then-place-eq0 : goal.returns-then-place-eq0

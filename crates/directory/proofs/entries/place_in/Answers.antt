@@ -1,10 +1,7 @@
 -- The loop's invariant: the place is the one that is found from entry k on. The measure is how many entries of the block are left.
 use mathlib.Core.Path.{◌≡◌, refl, ◌∙◌}
-use Prim.Native.Nat.{◌+◌, ◌*◌, ◌≤◌, ◌-◌}
+use Prim.Native.Nat.{◌+◌}
 use native.Mathlib.Omega.{arith}
-use lib.ListN.{length, drop}
-use Rattle.directory.specs.Directory.{numbers_of}
-use Rattle.directory.specs.Lookup.{place_from}
 use Rattle.directory.proofs.Numbers.{match_here, no_match, none_left}
 use borrow.Author.Rules.{rules}
 use Rattle.directory.proofs.entries.place_in.Goals as goal

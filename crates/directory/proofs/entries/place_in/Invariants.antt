@@ -1,11 +1,8 @@
-use mathlib.Core.Path.{◌≡◌, refl, ◌∙◌}
+use mathlib.Core.Path.{◌≡◌}
 use Prim.Native.Nat.{◌+◌, ◌*◌, ◌≤◌, ◌-◌}
-use native.Mathlib.Omega.{arith}
 use lib.ListN.{length, drop}
 use Rattle.directory.specs.Directory.{numbers_of}
 use Rattle.directory.specs.Lookup.{place_from}
-use Rattle.directory.proofs.Numbers.{match_here, no_match, none_left}
-use borrow.Author.Rules.{rules}
 use Rattle.directory.proofs.entries.place_in.Given as goal
 
 abbrev pub invariant-loop-k : goal.invariant-loop-k

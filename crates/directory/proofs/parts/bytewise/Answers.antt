@@ -1,6 +1,6 @@
 -- The loop's invariant: what is left, fed to the register as it stands, gives what the bytes from the place on give. The measure is the number of bytes left.
-use mathlib.Core.Path.{◌≡◌, refl, ◌∙◌, ap}
-use Prim.Native.Nat.{ℕ, ◌+◌, ◌≤◌, ◌-◌}
+use mathlib.Core.Path.{refl, ◌∙◌, ap}
+use Prim.Native.Nat.{ℕ, ◌+◌, ◌≤◌}
 use lib.ListN.{length, drop, drop_of_length-le}
 use Rattle.directory.specs.Checksum.{bytes_on}
 use Rattle.directory.proofs.Blocks.{turn}

@@ -1,9 +1,7 @@
-use mathlib.Core.Path.{◌≡◌, refl, ◌∙◌, ap}
-use Prim.Native.Nat.{ℕ, ◌+◌, ◌≤◌, ◌-◌}
-use lib.ListN.{length, drop, drop_of_length-le}
+use mathlib.Core.Path.{◌≡◌}
+use Prim.Native.Nat.{◌≤◌, ◌-◌}
+use lib.ListN.{length, drop}
 use Rattle.directory.specs.Checksum.{bytes_on}
-use Rattle.directory.proofs.Blocks.{turn}
-use borrow.Author.Rules.{rules}
 use Rattle.directory.proofs.parts.bytewise.Given as goal
 
 abbrev pub invariant-loop-i : goal.invariant-loop-i

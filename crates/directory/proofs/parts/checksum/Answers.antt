@@ -1,9 +1,9 @@
 -- The loop's invariant: what is left, fed to the register that the word stands for, gives the checksum. The measure is the number of bytes left.
-use mathlib.Core.Path.{◌≡◌, refl, ◌∙◌, ap}
-use Prim.Native.Nat.{ℕ, ◌+◌, ◌≤◌, ◌-◌}
-use lib.ListN.{length, drop}
+use mathlib.Core.Path.{refl, ◌∙◌, ap}
+use Prim.Native.Nat.{ℕ}
+use lib.ListN.{drop}
 use Rattle.directory.specs.Checksum.{shifted, shifts, byte_on, bytes_on, checksum_of}
-use Rattle.directory.specs.Code.{feed, standing}
+use Rattle.directory.specs.Code.{feed}
 use borrow.Author.Rules.{rules}
 use Rattle.directory.proofs.parts.checksum.Goals as goal
 

@@ -1,9 +1,8 @@
-use mathlib.Core.Path.{◌≡◌, refl, ◌∙◌, ap}
-use Prim.Native.Nat.{ℕ, ◌+◌, ◌≤◌, ◌-◌}
+use mathlib.Core.Path.{◌≡◌}
+use Prim.Native.Nat.{◌≤◌, ◌-◌}
 use lib.ListN.{length, drop}
-use Rattle.directory.specs.Checksum.{shifted, shifts, byte_on, bytes_on, checksum_of}
-use Rattle.directory.specs.Code.{feed, standing}
-use borrow.Author.Rules.{rules}
+use Rattle.directory.specs.Checksum.{bytes_on, checksum_of}
+use Rattle.directory.specs.Code.{standing}
 use Rattle.directory.proofs.parts.checksum.Given as goal
 
 abbrev pub invariant-loop-i : goal.invariant-loop-i

@@ -1,6 +1,4 @@
 -- By the part.
-use mathlib.Core.Path.{◌∙◌}
-use borrow.Author.Rules.{rules}
 use Rattle.directory.proofs.parts.is_intact.Goals as goal
 
 pub returns-in-First : goal.returns-in-First

@@ -1,7 +1,6 @@
 -- The three blocks are the part.
 use mathlib.Core.Path.{◌∙◌}
 use Rattle.directory.specs.Directory.{part_of, is_intact}
-use borrow.Author.Rules.{rules}
 use Rattle.directory.proofs.parts.second_intact.Goals as goal
 
 pub returns : goal.returns

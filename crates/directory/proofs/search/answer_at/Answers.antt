@@ -1,7 +1,6 @@
 -- No match, or a match at a place.
 use borrow.Author.Tests.{eq-eqb, ne_eqb}
 use Rattle.directory.specs.Lookup.{looked_of}
-use borrow.Author.Rules.{rules}
 use Rattle.directory.proofs.search.answer_at.Goals as goal
 
 pub returns-then-place-eq0 : goal.returns-then-place-eq0

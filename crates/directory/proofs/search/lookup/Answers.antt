@@ -1,7 +1,6 @@
 -- 11 first; then the version decides.
 use mathlib.Core.Path.{sym, ◌∙◌}
 use Rattle.directory.proofs.Ways.{no_card_lem, by_version, absent}
-use borrow.Author.Rules.{rules}
 use Rattle.directory.proofs.search.lookup.Goals as goal
 
 pub returns-then-sectors_of-eq0 : goal.returns-then-sectors_of-eq0

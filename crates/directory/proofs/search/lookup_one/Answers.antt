@@ -3,7 +3,6 @@ use mathlib.Core.Path.{◌∙◌, ap₂}
 use mathlib.Core.List.{◌++◌}
 use Rattle.directory.specs.Directory.{part_of}
 use Rattle.directory.proofs.Ways.{wrong_one, right_one}
-use borrow.Author.Rules.{rules}
 use Rattle.directory.proofs.search.lookup_one.Goals as goal
 
 pub returns-then-right_two : goal.returns-then-right_two

@@ -3,7 +3,6 @@ use mathlib.Core.Path.{◌∙◌, ap₂}
 use mathlib.Core.List.{◌++◌}
 use Rattle.directory.specs.Directory.{part_of}
 use Rattle.directory.proofs.Ways.{wrong_two, right_two_first, right_two_second}
-use borrow.Author.Rules.{rules}
 use Rattle.directory.proofs.search.lookup_two.Goals as goal
 
 pub returns-then-place-ne0 : goal.returns-then-place-ne0

@@ -2,7 +2,6 @@
 use mathlib.Core.Path.{◌∙◌}
 use borrow.Author.Tests.{eq-eqb, ne_eqb}
 use Rattle.directory.specs.Lookup.{refusal_of}
-use borrow.Author.Rules.{rules}
 use Rattle.directory.proofs.search.refusal_of.Goals as goal
 
 pub returns-then-sectors_of-eq0 : goal.returns-then-sectors_of-eq0

@@ -1,7 +1,6 @@
 -- The three ways out are those of the definition.
 use borrow.Author.Tests.{le-leb, lt-leb}
 use Rattle.directory.specs.Lookup.{sector_of_place}
-use borrow.Author.Rules.{rules}
 use Rattle.directory.proofs.search.sector_of_place.Goals as goal
 
 pub returns-then-place-le15 : goal.returns-then-place-le15

@@ -1,7 +1,6 @@
 -- By the version.
 use mathlib.Core.Path.{◌∙◌}
 use Rattle.directory.specs.Lookup.{version_refusal}
-use borrow.Author.Rules.{rules}
 use Rattle.directory.proofs.search.version_refusal.Goals as goal
 
 pub returns-in-Absent : goal.returns-in-Absent

@@ -4,7 +4,6 @@ use Prim.Native.Nat.{ℕ}
 use lib.ListN.{drop}
 use Rattle.directory.specs.Checksum.{bytes_on}
 use Rattle.directory.proofs.Blocks.{two_halves}
-use borrow.Author.Rules.{rules}
 use Rattle.directory.proofs.words.more.Goals as goal
 
 pub returns : goal.returns

@@ -1,5 +1,5 @@
 -- The last eight bytes of a block.
-use mathlib.Core.Path.{sym, ◌∙◌, ap}
+use mathlib.Core.Path.{◌∙◌, ap}
 use Rattle.directory.specs.Checksum.{bytes_on}
 use Rattle.directory.proofs.Blocks.{last_eight}
 use borrow.Author.Rules.{rules}

@@ -2,10 +2,6 @@
 use mathlib.Core.Path.{◌∙◌}
 use borrow.Author.Tests.{eq-eqb, ne_eqb}
 use Rattle.edition.specs.Bytes.{choice_by}
-use borrow.Author.Rules.{rules}
-use Rattle.edition.proofs.bytes.choice_by.Reads as reads
-use Rattle.edition.proofs.bytes.chosen_by.Reads as chosen-by-reads
-use Rattle.edition.proofs.usage_of.Reads as usage-of-reads
 use Rattle.edition.proofs.bytes.choice_by.Goals as goal
 
 pub returns-then-lock-eq0 : goal.returns-then-lock-eq0

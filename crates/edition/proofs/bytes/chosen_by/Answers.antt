@@ -1,6 +1,4 @@
 -- By what is asked.
-use borrow.Author.Rules.{rules}
-use Rattle.edition.proofs.bytes.chosen_by.Reads as reads
 use Rattle.edition.proofs.bytes.chosen_by.Goals as goal
 
 pub returns-in-For : goal.returns-in-For

@@ -1,9 +1,5 @@
 -- What the bytes name, where they are a record.
 use Rattle.edition.specs.Bytes.{is_card, found_in}
-use borrow.Author.Rules.{rules}
-use Rattle.edition.proofs.bytes.decode.Reads as reads
-use Rattle.edition.proofs.bytes.is_choice.Reads as is-choice-reads
-use Rattle.edition.proofs.bytes.named_by.Reads as named-by-reads
 use Rattle.edition.proofs.bytes.decode.Goals as goal
 
 pub returns-then-bytes-is_choice : goal.returns-then-bytes-is_choice

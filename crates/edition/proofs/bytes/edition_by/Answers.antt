@@ -1,7 +1,6 @@
 -- By the code.
 use borrow.Author.Tests.{eq-eqb, ne_eqb}
 use Rattle.edition.specs.Bytes.{edition_by}
-use Rattle.edition.proofs.bytes.edition_by.Reads as reads
 use Rattle.edition.proofs.bytes.edition_by.Goals as goal
 
 pub returns-then-code-eq0 : goal.returns-then-code-eq0

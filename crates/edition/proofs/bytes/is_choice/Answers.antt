@@ -1,9 +1,6 @@
 -- Open, or locked.
 use borrow.Author.Tests.{eq-eqb, ne_eqb}
 use Rattle.edition.specs.Bytes.{is_choice}
-use borrow.Author.Rules.{rules}
-use Rattle.edition.proofs.bytes.is_choice.Reads as reads
-use Rattle.edition.proofs.bytes.is_usage.Reads as is-usage-reads
 use Rattle.edition.proofs.bytes.is_choice.Goals as goal
 
 pub returns-then-lock-eq0 : goal.returns-then-lock-eq0

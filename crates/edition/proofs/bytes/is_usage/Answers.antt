@@ -1,7 +1,6 @@
 -- The four in turn.
 use mathlib.Core.Path.{refl}
 use Rattle.edition.specs.Bytes.{is_usage}
-use Rattle.edition.proofs.bytes.is_usage.Reads as reads
 use Rattle.edition.proofs.bytes.is_usage.Goals as goal
 
 pub returns : goal.returns

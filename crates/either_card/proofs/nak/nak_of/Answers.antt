@@ -1,8 +1,5 @@
 -- By the edition, then by the sign.
 use mathlib.Core.Path.{◌∙◌}
-use borrow.Author.Rules.{rules}
-use Rattle.either_card.proofs.nak.nak_of.Reads as reads
-use Rattle.either_card.proofs.nak.value_of.Reads as value-of-reads
 use Rattle.either_card.proofs.nak.nak_of.Goals as goal
 
 pub returns-in-Nak : goal.returns-in-Nak

@@ -2,9 +2,6 @@
 use mathlib.Core.Path.{◌∙◌}
 use borrow.Author.Tests.{eq-eqb, ne_eqb}
 use Rattle.either_card.specs.Personal.{choosing}
-use borrow.Author.Rules.{rules}
-use Rattle.either_card.proofs.personal.choosing.Reads as reads
-use Rattle.either_card.proofs.personal.chosen.Reads as chosen-reads
 use Rattle.either_card.proofs.personal.choosing.Goals as goal
 
 pub returns-then-n-eq0 : goal.returns-then-n-eq0

@@ -1,7 +1,4 @@
 -- 17, 18, or what an accepted one does.
-use borrow.Author.Rules.{rules}
-use Rattle.either_card.proofs.personal.chosen.Reads as reads
-use Rattle.edition.proofs.usage_of.Reads as usage-of-reads
 use Rattle.either_card.proofs.personal.chosen.Goals as goal
 
 pub returns-in-Unknown : goal.returns-in-Unknown

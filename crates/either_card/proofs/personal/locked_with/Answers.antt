@@ -1,7 +1,4 @@
 -- The type that was asked for, or the record as it is.
-use borrow.Author.Rules.{rules}
-use Rattle.either_card.proofs.personal.locked_with.Reads as reads
-use Rattle.edition.proofs.usage_of.Reads as usage-of-reads
 use Rattle.either_card.proofs.personal.locked_with.Goals as goal
 
 pub returns-in-For : goal.returns-in-For

@@ -1,9 +1,6 @@
 -- Locked by an accepted one.
 use mathlib.Core.Path.{◌∙◌}
 use borrow.Author.Tests.{eq-eqb, ne_eqb}
-use borrow.Author.Rules.{rules}
-use Rattle.either_card.proofs.personal.next_record.Reads as reads
-use Rattle.either_card.proofs.personal.locked_with.Reads as locked-with-reads
 use Rattle.either_card.proofs.personal.next_record.Goals as goal
 
 pub returns-then-n-eq0 : goal.returns-then-n-eq0

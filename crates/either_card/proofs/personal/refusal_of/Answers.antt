@@ -2,10 +2,6 @@
 use mathlib.Core.Path.{◌∙◌}
 use Rattle.judge.specs.Checks.{incoherent}
 use Rattle.either_card.specs.Code.{read_refusal}
-use borrow.Author.Rules.{rules}
-use Rattle.either_card.proofs.personal.refusal_of.Reads as reads
-use Rattle.either_card.proofs.personal.zero_refusal.Reads as zero-refusal-reads
-use Rattle.session.proofs.is_coherent.Reads as is-coherent-reads
 use Rattle.either_card.proofs.personal.refusal_of.Goals as goal
 
 pub returns-then-coherent : goal.returns-then-coherent

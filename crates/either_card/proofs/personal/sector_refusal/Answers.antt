@@ -2,11 +2,6 @@
 use Rattle.access.proofs.BitLaws.{closed, opened}
 use Rattle.judge.specs.Checks.{is_blocked, right_of}
 use Rattle.either_card.specs.Code.{sector_refusal}
-use borrow.Author.Rules.{rules}
-use Rattle.either_card.proofs.personal.sector_refusal.Reads as reads
-use Rattle.access.proofs.bits_of.Reads as bits-of-reads
-use Rattle.access.proofs.is_mute.Reads as is-mute-reads
-use Rattle.access.proofs.may.Reads as may-reads
 use Rattle.either_card.proofs.personal.sector_refusal.Goals as goal
 
 pub returns-in_default : goal.returns-in_default

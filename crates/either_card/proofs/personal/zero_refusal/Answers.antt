@@ -3,12 +3,6 @@ use mathlib.Core.Path.{◌∙◌}
 use borrow.Author.Tests.{eq-eqb, ne_eqb}
 use Rattle.layout.specs.Layout.{sector_of}
 use Rattle.either_card.specs.Code.{zero_refusal}
-use borrow.Author.Rules.{rules}
-use Rattle.either_card.proofs.personal.zero_refusal.Reads as reads
-use Rattle.access.proofs.access_bytes_of.Reads as access-bytes-of-reads
-use Rattle.either_card.proofs.personal.sector_refusal.Reads as sector-refusal-reads
-use Rattle.layout.proofs.trailer_of.Reads as trailer-of-reads
-use Rattle.memory.proofs.content.Reads as content-reads
 use Rattle.either_card.proofs.personal.zero_refusal.Goals as goal
 
 pub returns-in-Nobody : goal.returns-in-Nobody

@@ -1,6 +1,5 @@
 -- The bare answer to the inner bytes, or the refusal.
 use mathlib.Core.Path.{◌≡◌, sym, ap, ◌∙◌}
-use mathlib.Core.Logic.{⊎_elim}
 use lib.Seq.{length-take-le}
 use native.Mathlib.Omega.{arith}
 use Rattle.sealed.specs.Sealed.{inner_of}
@@ -8,12 +7,6 @@ use Rattle.sealed.proofs.Ways.{long}
 use Rattle.either_card.specs.Either.{given_for, sealed_card_act_of, sealed_card_of, sealed_card_answer_of, sealed_card_image_after}
 use Rattle.either_card.proofs.Sealed.{with_seal_lem, without_seal}
 use borrow.Author.Rules.{rules}
-use Rattle.either_card.proofs.sealing.sealed_step.Reads as reads
-use Rattle.either_card.proofs.refusal.Reads as refusal-reads
-use Rattle.either_card.proofs.sealing.first_refusal.Reads as first-refusal-reads
-use Rattle.either_card.proofs.sealing.sealed_card.Reads as sealed-card-reads
-use Rattle.either_card.proofs.step.Reads as step-reads
-use Rattle.sealed.proofs.is_sealed.Reads as is-sealed-reads
 use Rattle.either_card.proofs.sealing.sealed_step.Goals as goal
 use Rattle.either_card.proofs.sealing.sealed_step.Goals.{then-is_sealed, else-is_sealed}
 
@@ -33,7 +26,7 @@ returns c = let entered = c.args in
     let met = c.if-is_sealed in
     let told : (met.a ≡ given_for image k s (inner_of frame) (sealed_card_act_of image k s frame)) × (met.image ≡ sealed_card_image_after image k s frame) =
     elim met.branch [
-      then-is_sealed w ↦ let law = with_seal_lem image k s frame _ c.is_sealed.ensures w.if-is_sealed.true in (w.a-is ∙ w.step-a.ensures.value ∙ law.0, w.image-is ∙ w.step-a.ensures.image_after ∙ law.1)
-    | else-is_sealed w ↦ let law = without_seal image k s frame _ c.is_sealed.ensures _ w.if-is_sealed.false w.first_refusal.ensures in (w.a-is ∙ w.refusal-a.ensures ∙ law.0, w.image-is ∙ law.1)
+      | then-is_sealed w ↦ let law = with_seal_lem image k s frame _ c.is_sealed.ensures w.if-is_sealed.true in (w.a-is ∙ w.step-a.ensures.value ∙ law.0, w.image-is ∙ w.step-a.ensures.image_after ∙ law.1)
+      | else-is_sealed w ↦ let law = without_seal image k s frame _ c.is_sealed.ensures _ w.if-is_sealed.false w.first_refusal.ensures in (w.a-is ∙ w.refusal-a.ensures ∙ law.0, w.image-is ∙ law.1)
     ] in
     record { value = c.sealed_card.ensures ∙ ap sealed_card_of told.0; image_after = told.1 }

@@ -2,7 +2,6 @@
 use mathlib.Core.Path.{◌∙◌}
 use Rattle.access.specs.Bits.{nibble_of, encode_bits}
 use Rattle.issue.specs.Groups.{access_for}
-use borrow.Author.Rules.{rules}
 use Rattle.issue.proofs.groups.access_for.Goals as goal
 
 pub with_inverses-requires : goal.with_inverses-requires

@@ -1,6 +1,5 @@
 -- By what the access bytes say.
 use Rattle.issue.specs.Groups.{bits_in}
-use borrow.Author.Rules.{rules}
 use Rattle.issue.proofs.groups.bits_in.Goals as goal
 
 pub returns-in-Blocked : goal.returns-in-Blocked

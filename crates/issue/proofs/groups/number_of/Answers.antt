@@ -1,7 +1,6 @@
 -- No card first, then no sector, then the bits.
 use borrow.Author.Tests.{eq-eqb, ne_eqb}
 use Rattle.issue.specs.Groups.{access_number}
-use borrow.Author.Rules.{rules}
 use Rattle.issue.proofs.groups.number_of.Goals as goal
 
 pub returns-then-sectors-eq0 : goal.returns-then-sectors-eq0

@@ -1,7 +1,6 @@
 -- 11, then 2; then what the access bytes say.
 use mathlib.Core.Path.{◌∙◌}
 use Rattle.issue.proofs.Ways.{no_card_read, no_sector_read, sector_read}
-use borrow.Author.Rules.{rules}
 use Rattle.issue.proofs.groups.read_access.Goals as goal
 
 pub returns-then-sectors-eq0 : goal.returns-then-sectors-eq0

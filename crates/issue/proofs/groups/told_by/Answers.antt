@@ -1,7 +1,6 @@
 -- Blocked; or the bits of the four groups.
 use mathlib.Core.Path.{◌∙◌}
 use Rattle.issue.proofs.Ways.{all_blocked, all_told}
-use borrow.Author.Rules.{rules}
 use Rattle.issue.proofs.groups.told_by.Goals as goal
 
 pub returns-in_default : goal.returns-in_default

@@ -1,7 +1,6 @@
 -- Three stores.
 use mathlib.Core.Path.{refl}
 use Rattle.issue.specs.Groups.{with_access}
-use borrow.Author.Rules.{rules}
 use Rattle.issue.proofs.groups.with_access.Goals as goal
 
 pub returns : goal.returns

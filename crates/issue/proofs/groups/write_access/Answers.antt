@@ -1,6 +1,5 @@
 -- Refused; or the trailer stored with its new access bytes.
 use Rattle.issue.proofs.Ways.{not_accessed, accessed}
-use borrow.Author.Rules.{rules}
 use Rattle.issue.proofs.groups.write_access.Goals as goal
 
 pub returns-then-number-ne0 : goal.returns-then-number-ne0

@@ -1,5 +1,4 @@
 -- By the version.
-use borrow.Author.Rules.{rules}
 use Rattle.issue.proofs.read.count_of.Goals as goal
 
 pub returns-in-Absent : goal.returns-in-Absent

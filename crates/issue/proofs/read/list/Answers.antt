@@ -1,7 +1,5 @@
 -- The loop's invariant is `Listed`; the measure is the numbers left.
-use Prim.Native.Nat.{◌-◌}
-use Rattle.issue.proofs.Lists.{Listed, start, turn, finished}
-use borrow.Author.Rules.{rules}
+use Rattle.issue.proofs.Lists.{start, turn, finished}
 use Rattle.issue.proofs.read.list.Goals as goal
 
 pub loop-i-init : goal.loop-i-init

@@ -1,6 +1,5 @@
 use Prim.Native.Nat.{◌-◌}
-use Rattle.issue.proofs.Lists.{Listed, start, turn, finished}
-use borrow.Author.Rules.{rules}
+use Rattle.issue.proofs.Lists.{Listed}
 use Rattle.issue.proofs.read.list.Given as goal
 
 abbrev pub invariant-loop-i : goal.invariant-loop-i

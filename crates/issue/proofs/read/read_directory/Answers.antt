@@ -1,7 +1,6 @@
 -- Refused, with a list of zeros; or read by its version.
 use mathlib.Core.Path.{refl}
 use Rattle.issue.proofs.Ways.{not_read, is_read}
-use borrow.Author.Rules.{rules}
 use Rattle.issue.proofs.read.read_directory.Goals as goal
 
 pub returns-then-number-ne0 : goal.returns-then-number-ne0

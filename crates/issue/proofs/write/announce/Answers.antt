@@ -2,7 +2,6 @@
 use mathlib.Core.Path.{◌∙◌}
 use Rattle.memory.specs.Memory.{byte_of}
 use Rattle.issue.specs.Write.{announced}
-use borrow.Author.Rules.{rules}
 use Rattle.issue.proofs.write.announce.Goals as goal
 
 pub returns : goal.returns

@@ -1,7 +1,6 @@
 -- The sum is the definition.
 use mathlib.Core.Path.{refl}
 use Rattle.issue.specs.Write.{announcing}
-use borrow.Author.Rules.{rules}
 use Rattle.issue.proofs.write.announcing_byte.Goals as goal
 
 pub returns : goal.returns

@@ -1,9 +1,7 @@
 -- The loop's invariant is `Begun`; the measure is the bytes left.
 use mathlib.Core.Path.{refl, sym, ◌∙◌}
-use Prim.Native.Nat.{◌-◌}
-use lib.ListN.{length, length-set}
-use Rattle.issue.proofs.Filling.{Begun, start, place, turn, done}
-use borrow.Author.Rules.{rules}
+use lib.ListN.{length-set}
+use Rattle.issue.proofs.Filling.{start, place, turn, done}
 use Rattle.issue.proofs.write.fill_part.Goals as goal
 
 pub loop-i-init : goal.loop-i-init

@@ -1,8 +1,6 @@
-use mathlib.Core.Path.{refl, sym, ◌∙◌}
 use Prim.Native.Nat.{◌-◌}
-use lib.ListN.{length, length-set}
-use Rattle.issue.proofs.Filling.{Begun, start, place, turn, done}
-use borrow.Author.Rules.{rules}
+use lib.ListN.{length}
+use Rattle.issue.proofs.Filling.{Begun}
 use Rattle.issue.proofs.write.fill_part.Given as goal
 
 abbrev pub invariant-loop-i : goal.invariant-loop-i

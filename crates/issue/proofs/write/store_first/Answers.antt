@@ -2,7 +2,6 @@
 use mathlib.Core.Path.{◌∙◌}
 use Rattle.issue.specs.Write.{filled}
 use Rattle.issue.proofs.Filling.{to_end}
-use borrow.Author.Rules.{rules}
 use Rattle.issue.proofs.write.store_first.Goals as goal
 
 pub returns : goal.returns

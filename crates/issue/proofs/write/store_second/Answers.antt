@@ -3,7 +3,6 @@ use mathlib.Core.Path.{◌∙◌}
 use lib.Seq.{drop-drop}
 use Rattle.issue.specs.Write.{filled}
 use Rattle.issue.proofs.Filling.{to_end}
-use borrow.Author.Rules.{rules}
 use Rattle.issue.proofs.write.store_second.Goals as goal
 
 pub returns : goal.returns

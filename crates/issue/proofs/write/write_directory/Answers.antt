@@ -4,7 +4,6 @@ use native.Mathlib.Omega.{arith}
 use Rattle.issue.specs.Write.{version_number, written_as}
 use Rattle.issue.proofs.Choice.{amount_of}
 use Rattle.issue.proofs.Ways.{no_card_lem, small_card, by_version}
-use borrow.Author.Rules.{rules}
 use Rattle.issue.proofs.write.write_directory.Goals as goal
 
 pub returns-then-sectors-eq0 : goal.returns-then-sectors-eq0

@@ -1,6 +1,5 @@
 -- The part, filled and put into its blocks.
 use mathlib.Core.Path.{◌∙◌}
-use borrow.Author.Rules.{rules}
 use Rattle.issue.proofs.write.write_first.Goals as goal
 
 pub returns : goal.returns

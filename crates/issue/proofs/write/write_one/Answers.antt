@@ -1,6 +1,5 @@
 -- One part, and the announcing byte.
 use Rattle.issue.proofs.Filling.{one_written}
-use borrow.Author.Rules.{rules}
 use Rattle.issue.proofs.write.write_one.Goals as goal
 
 pub returns : goal.returns

@@ -3,7 +3,6 @@ use mathlib.Core.Path.{sym}
 use native.Mathlib.Omega.{arith}
 use lib.Seq.{length-take-le}
 use Rattle.issue.proofs.Filling.{two_written}
-use borrow.Author.Rules.{rules}
 use Rattle.issue.proofs.write.write_two.Goals as goal
 
 pub slice_bounds-write_first-end : goal.slice_bounds-write_first-end

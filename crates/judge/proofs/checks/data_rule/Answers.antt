@@ -2,7 +2,6 @@
 use Rattle.judge.specs.First.{first}
 use Rattle.judge.specs.Checks.{right_of}
 use Rattle.judge.specs.Code.{granted}
-use borrow.Author.Rules.{rules}
 use Rattle.judge.proofs.checks.data_rule.Goals as goal
 
 pub returns-then-is_forbidden : goal.returns-then-is_forbidden

@@ -2,7 +2,6 @@
 use mathlib.Core.Path.{◌≡◌, refl, ◌∙◌}
 use mathlib.Core.Bool.{Bool, true, false, ◌||◌}
 use Rattle.judge.specs.Checks.{is_forbidden}
-use borrow.Author.Rules.{rules}
 use Rattle.judge.proofs.checks.is_forbidden.Goals as goal
 
 or_false : (x : Bool) → x ≡ (x || false)

@@ -1,6 +1,5 @@
 -- `is_key` compares the six bytes of the letter's key.
 use Rattle.judge.specs.Checks.{is_key}
-use borrow.Author.Rules.{rules}
 use Rattle.judge.proofs.checks.is_key.Goals as goal
 
 pub returns-in-KeyA : goal.returns-in-KeyA

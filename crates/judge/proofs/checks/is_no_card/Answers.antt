@@ -1,6 +1,5 @@
 -- No sectors means no card.
 use Rattle.judge.specs.Checks.{no_card}
-use borrow.Author.Rules.{rules}
 use Rattle.judge.proofs.checks.is_no_card.Goals as goal
 
 pub returns : goal.returns

@@ -1,6 +1,5 @@
 -- `letter_of` goes by whether there is an authenticated sector.
 use Rattle.judge.specs.Code.{letter_of}
-use borrow.Author.Rules.{rules}
 use Rattle.judge.proofs.checks.letter_of.Goals as goal
 
 pub returns-in-Nobody : goal.returns-in-Nobody

@@ -3,7 +3,6 @@ use Rattle.judge.specs.First.{first}
 use Rattle.judge.specs.Checks.{no_block, other_sector, memory_checks}
 use Rattle.judge.specs.Code.{granted, verdict_of}
 use Rattle.judge.proofs.Guard.{decided}
-use borrow.Author.Rules.{rules}
 use Rattle.judge.proofs.checks.memory_verdict.Goals as goal
 
 pub returns-then-not-has_block : goal.returns-then-not-has_block

@@ -9,7 +9,6 @@ use Rattle.judge.specs.Checks.{is_forbidden, trailer_right, right_of}
 use Rattle.judge.specs.Code.{trailer_grant, granted}
 use Rattle.judge.specs.declared.checks.Verdict.{Verdict}
 use Rattle.judge.specs.declared.checks.Verdict.TheVariants.{Refuse, InParts}
-use borrow.Author.Rules.{rules}
 use Rattle.judge.proofs.checks.trailer_rule.Goals as goal
 
 barred : (t : Bool) (m : ℕ) → cond t (Refuse 7) (InParts m) ≡ granted (cond (not (not t && true)) (refuses 7) passes) (InParts m)

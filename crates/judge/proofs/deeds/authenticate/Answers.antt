@@ -2,7 +2,6 @@
 use Rattle.access.proofs.BitLaws.{closed, opened}
 use Rattle.judge.specs.First.{first, ruled}
 use Rattle.judge.specs.Checks.{no_block, is_blocked, wrong_key, authenticate_checks}
-use borrow.Author.Rules.{rules}
 use Rattle.judge.proofs.deeds.authenticate.Goals as goal
 
 pub returns-in-Blocked : goal.returns-in-Blocked

@@ -1,6 +1,5 @@
 -- `block_of` goes by the command.
 use Rattle.judge.specs.Code.{block_of}
-use borrow.Author.Rules.{rules}
 use Rattle.judge.proofs.deeds.block_of.Goals as goal
 
 pub returns-in-Unknown : goal.returns-in-Unknown

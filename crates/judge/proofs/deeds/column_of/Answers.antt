@@ -1,7 +1,6 @@
 -- `column_of` goes by the command.
 use mathlib.Core.Path.{◌∙◌}
 use Rattle.judge.specs.Code.{column_of}
-use borrow.Author.Rules.{rules}
 use Rattle.judge.proofs.deeds.column_of.Goals as goal
 
 pub returns-in-Unknown : goal.returns-in-Unknown

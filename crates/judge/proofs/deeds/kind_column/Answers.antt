@@ -1,6 +1,5 @@
 -- `kind_column` goes by the kind.
 use Rattle.judge.specs.Checks.{kind_column}
-use borrow.Author.Rules.{rules}
 use Rattle.judge.proofs.deeds.kind_column.Goals as goal
 
 pub returns-in-Increment : goal.returns-in-Increment

@@ -8,7 +8,6 @@ use Rattle.judge.specs.Judge.{done_of}
 use Rattle.judge.specs.Code.{shown_as, stored_as}
 use Rattle.judge.specs.declared.checks.Verdict.TheVariants.{Whole, InParts}
 use Rattle.judge.proofs.Lists.{stopped, passed, no_parts, no_more}
-use borrow.Author.Rules.{rules}
 use Rattle.judge.proofs.deeds.perform.Goals as goal
 
 pub apply-requires : goal.apply-requires

@@ -1,7 +1,6 @@
 -- `transfer` goes by the register.
 use Rattle.judge.specs.First.{first, ruled}
 use Rattle.judge.specs.Judge.{move_of}
-use borrow.Author.Rules.{rules}
 use Rattle.judge.proofs.deeds.transfer.Goals as goal
 
 pub returns-in-Empty : goal.returns-in-Empty

@@ -4,7 +4,6 @@ use Rattle.value.proofs.Blocks.{read_none, read_value}
 use Rattle.judge.specs.First.{first, ruled}
 use Rattle.judge.specs.Checks.{no_value}
 use Rattle.judge.specs.Judge.{applied_of}
-use borrow.Author.Rules.{rules}
 use Rattle.judge.proofs.values.apply.Goals as goal
 
 pub returns-in-NoValue : goal.returns-in-NoValue

@@ -2,7 +2,6 @@
 use Rattle.value.proofs.Blocks.{read_none, read_value}
 use Rattle.judge.specs.First.{first, ruled}
 use Rattle.judge.specs.Checks.{no_value}
-use borrow.Author.Rules.{rules}
 use Rattle.judge.proofs.values.begin.Goals as goal
 
 pub returns-in-NoValue : goal.returns-in-NoValue

@@ -1,6 +1,5 @@
 -- `load` goes by the total.
 use Rattle.judge.specs.Judge.{load_of}
-use borrow.Author.Rules.{rules}
 use Rattle.judge.proofs.values.load.Goals as goal
 
 pub returns-in-Fits : goal.returns-in-Fits

@@ -1,5 +1,4 @@
 -- The four bytes make a word as the definition does.
-use borrow.Author.Rules.{rules}
 use Rattle.judge.proofs.values.operand_of.Goals as goal
 
 pub returns : goal.returns

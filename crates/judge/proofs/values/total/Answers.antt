@@ -1,7 +1,6 @@
 -- `total` goes by the kind.
 use mathlib.Core.Path.{◌∙◌}
 use Rattle.judge.specs.Judge.{total_for}
-use borrow.Author.Rules.{rules}
 use Rattle.judge.proofs.values.total.Goals as goal
 
 pub returns-in-Increment : goal.returns-in-Increment

@@ -1,6 +1,5 @@
 -- 14, or 29 before it.
 use Rattle.kept.specs.Code.{after12}
-use borrow.Author.Rules.{rules}
 use Rattle.kept.proofs.sealing.after_12.Goals as goal
 
 pub returns-then-in_range : goal.returns-then-in_range

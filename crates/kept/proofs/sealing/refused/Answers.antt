@@ -1,6 +1,5 @@
 -- The refusal, and the figures as they came.
 use Rattle.kept.specs.Code.{refused_kept}
-use borrow.Author.Rules.{rules}
 use Rattle.kept.proofs.sealing.refused.Goals as goal
 
 pub returns : goal.returns

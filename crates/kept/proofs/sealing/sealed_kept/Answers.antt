@@ -1,6 +1,5 @@
 -- The reply in eighteen bytes, and the figures.
 use Rattle.kept.specs.Kept.{sealed_kept_of}
-use borrow.Author.Rules.{rules}
 use Rattle.kept.proofs.sealing.sealed_kept.Goals as goal
 
 pub returns : goal.returns

@@ -1,6 +1,5 @@
 -- The answer to the inner bytes, or the refusal.
 use mathlib.Core.Path.{◌≡◌, sym, ap, ◌∙◌}
-use mathlib.Core.Logic.{⊎_elim}
 use native.Mathlib.Omega.{arith}
 use lib.Seq.{length-take-le}
 use Rattle.sealed.specs.Sealed.{inner_of}
@@ -28,7 +27,7 @@ returns c = let entered = c.args in
     let met = c.if-is_sealed in
     let told : (met.a ≡ kept_for image k f s (inner_of frame) (sealed_kept image k f s frame)) × (met.image ≡ sealed_kept_image_after image k f s frame) =
     elim met.branch [
-      then-is_sealed w ↦ let law = with_seal_lem image k f s frame _ c.is_sealed.ensures w.if-is_sealed.true in (w.a-is ∙ w.step-a.ensures.value ∙ law.0, w.image-is ∙ w.step-a.ensures.image_after ∙ law.1)
-    | else-is_sealed w ↦ let law = without_seal image k f s frame _ c.is_sealed.ensures w.if-is_sealed.false _ (rw w.after_12.ensures at w.early_refusal.ensures) in (w.a-is ∙ w.refused-a.ensures ∙ law.0, w.image-is ∙ law.1)
+      | then-is_sealed w ↦ let law = with_seal_lem image k f s frame _ c.is_sealed.ensures w.if-is_sealed.true in (w.a-is ∙ w.step-a.ensures.value ∙ law.0, w.image-is ∙ w.step-a.ensures.image_after ∙ law.1)
+      | else-is_sealed w ↦ let law = without_seal image k f s frame _ c.is_sealed.ensures w.if-is_sealed.false _ (rw w.after_12.ensures at w.early_refusal.ensures) in (w.a-is ∙ w.refused-a.ensures ∙ law.0, w.image-is ∙ law.1)
     ] in
     record { value = c.sealed_kept.ensures ∙ ap sealed_kept_of told.0; image_after = told.1 }

@@ -2,7 +2,6 @@
 use mathlib.Core.Path.{◌∙◌}
 use Rattle.tally.specs.Full.{counts}
 use Rattle.kept.specs.Kept.{settled_at}
-use borrow.Author.Rules.{rules}
 use Rattle.kept.proofs.settle.settled_at.Goals as goal
 
 pub returns-then-has-out : goal.returns-then-has-out

@@ -2,7 +2,6 @@
 use mathlib.Core.Path.{◌∙◌}
 use Rattle.kept.specs.Kept.{settled_by}
 use Rattle.kept.proofs.Laws.{others}
-use borrow.Author.Rules.{rules}
 use Rattle.kept.proofs.settle.settled_by.Goals as goal
 
 pub returns-in-Stored : goal.returns-in-Stored

@@ -1,7 +1,6 @@
 -- No card's size first, then too many names.
 use Rattle.mend.specs.All.{call_number}
 use borrow.Author.Tests.{eq-eqb, ne_eqb, lt-ltb, le-ltb}
-use borrow.Author.Rules.{rules}
 use Rattle.mend.proofs.all.call_number.Goals as goal
 
 pub returns-then-sectors-eq0 : goal.returns-then-sectors-eq0

@@ -1,7 +1,6 @@
 -- Refused, with a report of zeros; or all names in their order.
 use mathlib.Core.Path.{refl}
 use Rattle.mend.proofs.Ways.{call_refused, call_done, few}
-use borrow.Author.Rules.{rules}
 use Rattle.mend.proofs.all.mend.Goals as goal
 
 pub returns-then-number-ne0 : goal.returns-then-number-ne0

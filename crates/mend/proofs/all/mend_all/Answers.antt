@@ -1,9 +1,5 @@
 -- The loop's invariant is `Filling`; the measure is the names left.
-use Prim.Native.Nat.{◌-◌}
-use lib.ListN.{length}
-use native.Mathlib.Omega.{arith}
-use Rattle.mend.proofs.Report.{Filling, start, place, turn, finished}
-use borrow.Author.Rules.{rules}
+use Rattle.mend.proofs.Report.{start, place, turn, finished}
 use Rattle.mend.proofs.all.mend_all.Goals as goal
 
 pub loop-i-init : goal.loop-i-init

@@ -1,8 +1,6 @@
 use Prim.Native.Nat.{◌-◌}
 use lib.ListN.{length}
-use native.Mathlib.Omega.{arith}
-use Rattle.mend.proofs.Report.{Filling, start, place, turn, finished}
-use borrow.Author.Rules.{rules}
+use Rattle.mend.proofs.Report.{Filling}
 use Rattle.mend.proofs.all.mend_all.Given as goal
 
 abbrev pub invariant-loop-i : goal.invariant-loop-i

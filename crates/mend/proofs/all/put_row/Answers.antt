@@ -3,7 +3,6 @@ use Prim.Native.Nat.{◌*◌}
 use native.Mathlib.Omega.{arith}
 use Rattle.mend.specs.All.{row_of}
 use Rattle.mend.proofs.Report.{three_stored}
-use borrow.Author.Rules.{rules}
 use Rattle.mend.proofs.all.put_row.Goals as goal
 
 pub returns : goal.returns

@@ -1,10 +1,7 @@
 -- The loop's invariant: the bits are those of the bytes from i on.
-use Prim.Native.Nat.{◌≤◌, ◌-◌}
+use Prim.Native.Nat.{◌-◌}
 use Rattle.mend.proofs.Changed.{start, room, turn, all_told}
-use mathlib.Core.Path.{◌≡◌}
 use native.Mathlib.Omega.{arith}
-use lib.ListN.{drop}
-use Rattle.mend.specs.One.{changed_of}
 use borrow.Author.Rules.{rules}
 use Rattle.mend.proofs.one.changed_of.Goals as goal
 

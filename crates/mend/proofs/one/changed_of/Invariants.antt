@@ -1,10 +1,7 @@
-use Prim.Native.Nat.{◌≤◌, ◌-◌}
-use Rattle.mend.proofs.Changed.{start, room, turn, all_told}
+use Prim.Native.Nat.{◌≤◌}
 use mathlib.Core.Path.{◌≡◌}
-use native.Mathlib.Omega.{arith}
 use lib.ListN.{drop}
 use Rattle.mend.specs.One.{changed_of}
-use borrow.Author.Rules.{rules}
 use Rattle.mend.proofs.one.changed_of.Given as goal
 
 abbrev pub invariant-loop-i : goal.invariant-loop-i

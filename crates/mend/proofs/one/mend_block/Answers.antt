@@ -1,6 +1,5 @@
 -- Refused by its address; without a majority; or rewritten.
 use Rattle.mend.proofs.Ways.{turned_down, tied, done}
-use borrow.Author.Rules.{rules}
 use Rattle.mend.proofs.one.mend_block.Goals as goal
 
 pub returns-then-refused-ne0 : goal.returns-then-refused-ne0

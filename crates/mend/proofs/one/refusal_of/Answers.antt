@@ -1,6 +1,5 @@
 -- The image has the block; then block 0 and the trailers.
 use Rattle.mend.specs.One.{name_refusal}
-use borrow.Author.Rules.{rules}
 use Rattle.mend.proofs.one.refusal_of.Goals as goal
 
 pub returns-then-kept : goal.returns-then-kept

@@ -1,6 +1,5 @@
 -- The seven readings, as they are promised.
 use Rattle.mend.specs.Rule.{mended_of}
-use borrow.Author.Rules.{rules}
 use Rattle.mend.proofs.rule.majority_of.Goals as goal
 
 pub returns : goal.returns

@@ -1,6 +1,5 @@
 -- Both majorities, or none.
 use Rattle.mend.specs.Rule.{majority_rule}
-use borrow.Author.Rules.{rules}
 use Rattle.mend.proofs.rule.ruled.Goals as goal
 
 pub returns-then-agreed : goal.returns-then-agreed

@@ -1,12 +1,11 @@
 -- The loop's invariant: what is left of both is as much alike as the whole.
-use mathlib.Core.Path.{◌≡◌, refl, ◌∙◌, sym}
+use mathlib.Core.Path.{refl, ◌∙◌, sym}
 use Prim.Native.Nat.{◌≤◌, ◌<◌, ◌-◌}
 use native.Mathlib.Omega.{arith}
 use native.Mathlib.Numerals.{add-one}
 use lib.ListN.{drop, length, get_or, drop_of_length-le}
 use lib.Seq.{drop-cons}
 use borrow.Author.Tests.{ne_eqb, eq-eqb}
-use Rattle.value.specs.Block.{same}
 use borrow.Author.Rules.{rules}
 use Rattle.play.proofs.changes.is_alike.Goals as goal
 

@@ -2,7 +2,6 @@
 use native.Mathlib.Omega.{arith}
 use Rattle.play.specs.Printout.{change_line}
 use Rattle.play.proofs.Changing.{nothing}
-use borrow.Author.Rules.{rules}
 use Rattle.play.proofs.changes.put_change.Goals as goal
 
 pub returns-then-is_alike : goal.returns-then-is_alike

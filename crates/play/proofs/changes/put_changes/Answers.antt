@@ -1,7 +1,6 @@
 -- The loop's invariant is `Changing`; the measure is the blocks left.
 use Prim.Native.Nat.{◌-◌}
-use native.Mathlib.Omega.{arith}
-use Rattle.play.proofs.Changing.{Changing, start, line_room, turn, end_lines}
+use Rattle.play.proofs.Changing.{start, line_room, turn, end_lines}
 use Rattle.play.proofs.changes.put_changes.Goals as goal
 
 pub loop-b-init : goal.loop-b-init

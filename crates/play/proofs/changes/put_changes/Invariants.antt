@@ -1,6 +1,5 @@
 use Prim.Native.Nat.{◌-◌}
-use native.Mathlib.Omega.{arith}
-use Rattle.play.proofs.Changing.{Changing, start, line_room, turn, end_lines}
+use Rattle.play.proofs.Changing.{Changing}
 use Rattle.play.proofs.changes.put_changes.Given as goal
 
 abbrev pub invariant-loop-b : goal.invariant-loop-b

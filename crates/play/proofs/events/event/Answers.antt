@@ -3,7 +3,6 @@ use mathlib.Core.Path.{◌∙◌}
 use borrow.Author.Tests.{eq-eqb, ne_eqb}
 use Rattle.runs.specs.Run.{answer_to, image_upon}
 use Rattle.play.specs.Run.{sent_of}
-use borrow.Author.Rules.{rules}
 use Rattle.play.proofs.events.event.Goals as goal
 
 pub returns-then-frame-eq0 : goal.returns-then-frame-eq0

@@ -1,5 +1,4 @@
 -- The form decides.
-use borrow.Author.Rules.{rules}
 use Rattle.play.proofs.events.keep.Goals as goal
 
 pub put_event-requires : goal.put_event-requires

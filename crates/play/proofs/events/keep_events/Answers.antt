@@ -2,8 +2,7 @@
 use mathlib.Core.Path.{ap}
 use native.Mathlib.Omega.{arith}
 use Rattle.runs.specs.Run.{State}
-use Rattle.play.proofs.Going.{Going, started, answer_room, due, turn, end_kept, end_state, end_place}
-use borrow.Author.Rules.{rules}
+use Rattle.play.proofs.Going.{started, answer_room, due, turn, end_kept, end_state, end_place}
 use Rattle.play.proofs.events.keep_events.Goals as goal
 
 pub loop-left-init : goal.loop-left-init

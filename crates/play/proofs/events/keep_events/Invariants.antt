@@ -1,8 +1,4 @@
-use mathlib.Core.Path.{ap}
-use native.Mathlib.Omega.{arith}
-use Rattle.runs.specs.Run.{State}
-use Rattle.play.proofs.Going.{Going, started, answer_room, due, turn, end_kept, end_state, end_place}
-use borrow.Author.Rules.{rules}
+use Rattle.play.proofs.Going.{Going}
 use Rattle.play.proofs.events.keep_events.Given as goal
 
 abbrev pub invariant-loop-left : goal.invariant-loop-left

@@ -6,7 +6,6 @@ use native.Mathlib.Omega.{arith}
 use lib.ListN.{length-set}
 use Rattle.play.specs.Printout.{event_line}
 use Rattle.play.proofs.Put.{put_at, then}
-use borrow.Author.Rules.{rules}
 use Rattle.play.proofs.lines.put_event.Goals as goal
 
 module _ (at : ℕ) {n gap m : ℕ} (h : at + 48 ≤ n) (g : gap ≤ at + 4) (p : m ≡ n) where

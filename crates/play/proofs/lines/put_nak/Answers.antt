@@ -2,7 +2,6 @@
 use native.Mathlib.Omega.{arith}
 use Rattle.play.specs.Printout.{nak_mark}
 use Rattle.play.proofs.Put.{then}
-use borrow.Author.Rules.{rules}
 use Rattle.play.proofs.lines.put_nak.Goals as goal
 
 pub returns-in-Old : goal.returns-in-Old

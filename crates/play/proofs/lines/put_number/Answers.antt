@@ -1,7 +1,6 @@
 -- The number after the word.
 use native.Mathlib.Omega.{arith}
 use Rattle.play.proofs.Put.{then}
-use borrow.Author.Rules.{rules}
 use Rattle.play.proofs.lines.put_number.Goals as goal
 
 pub returns : goal.returns

@@ -1,7 +1,6 @@
 -- A figure or a capital.
 use borrow.Author.Tests.{lt-ltb, le-ltb}
 use Rattle.play.specs.Text.{hex_digit}
-use borrow.Author.Rules.{rules}
 use Rattle.play.proofs.text.hex_digit.Goals as goal
 
 pub returns-then-n-lt10 : goal.returns-then-n-lt10

@@ -4,7 +4,6 @@ use Prim.Native.Nat.{ℕ, ◌+◌, ◌<◌, ◌≤◌}
 use native.Mathlib.Omega.{arith}
 use lib.ListN.{length-set}
 use Rattle.play.proofs.Put.{put_at, put_two, put_three, put_four, one_digit, two_digits, three_digits, four_digits, number}
-use borrow.Author.Rules.{rules}
 use Rattle.play.proofs.text.put_decimal.Goals as goal
 
 module _ (at : ℕ) {n : ℕ} (h : at + 4 ≤ n) where

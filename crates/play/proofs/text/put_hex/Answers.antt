@@ -1,10 +1,10 @@
 -- The loop's invariant: the digits of the first i bytes are put. The measure is what is left of sixteen.
 use mathlib.Core.Path.{◌≡◌, refl, sym, ◌∙◌}
-use Prim.Native.Nat.{◌+◌, ◌-◌, ◌≤◌}
+use Prim.Native.Nat.{◌-◌}
 use native.Mathlib.Omega.{arith}
-use lib.ListN.{length, take}
+use lib.ListN.{take}
 use lib.Seq.{take_all}
-use Rattle.play.specs.Text.{put_of, hex_of}
+use Rattle.play.specs.Text.{hex_of}
 use Rattle.play.proofs.Put.{put_nothing, hex_length, hex_more}
 use borrow.Author.Rules.{rules}
 use Rattle.play.proofs.text.put_hex.Goals as goal

@@ -1,8 +1,6 @@
 -- A byte, or nothing.
 use mathlib.Core.Path.{sym}
 use lib.ListN.{get_or-eq_default}
-use borrow.Author.Rules.{rules}
-use Rattle.script.proofs.lock.byte.Reads as reads
 use Rattle.script.proofs.lock.byte.Goals as goal
 
 pub returns : goal.returns

@@ -2,11 +2,6 @@
 use mathlib.Core.Path.{sym, ◌∙◌}
 use Rattle.script.specs.Lock.{ev1_reading_of, ev1_script_of}
 use Rattle.script.proofs.Locks.{came_to, was_stopped}
-use borrow.Author.Rules.{rules}
-use Rattle.script.proofs.lock.ev1_script.Reads as reads
-use Rattle.script.proofs.body.Reads as body-Reads
-use Rattle.script.proofs.lock.lock_at.Reads as lock-at-reads
-use Rattle.script.proofs.lock.lock_refusal.Reads as lock-refusal-reads
 use Rattle.script.proofs.lock.ev1_script.Goals as goal
 
 pub returns-in-To : goal.returns-in-To

@@ -1,7 +1,6 @@
 -- 24, or nothing.
 use borrow.Author.Tests.{lt-ltb, le-ltb}
 use Rattle.script.specs.Lock.{left_over}
-use Rattle.script.proofs.lock.left_over.Reads as reads
 use Rattle.script.proofs.lock.left_over.Goals as goal
 
 pub returns-then-at-script : goal.returns-then-at-script

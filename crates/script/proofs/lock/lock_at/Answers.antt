@@ -2,10 +2,6 @@
 use mathlib.Core.Path.{◌∙◌}
 use Rattle.script.specs.Lock.{lock_at}
 use Rattle.script.proofs.Locks.{nothing_there}
-use borrow.Author.Rules.{rules}
-use Rattle.script.proofs.lock.lock_at.Reads as reads
-use Rattle.edition.proofs.choice_by.Reads as choice-by-reads
-use Rattle.script.proofs.lock.byte.Reads as byte-Reads
 use Rattle.script.proofs.lock.lock_at.Goals as goal
 
 pub returns-then-script-at : goal.returns-then-script-at

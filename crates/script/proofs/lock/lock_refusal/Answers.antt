@@ -2,11 +2,6 @@
 use mathlib.Core.Path.{◌∙◌}
 use borrow.Author.Tests.{lt-ltb, le-ltb, eq-eqb, ne_eqb}
 use Rattle.script.specs.Lock.{lock_refusal}
-use borrow.Author.Rules.{rules}
-use Rattle.script.proofs.lock.lock_refusal.Reads as reads
-use Rattle.edition.proofs.is_usage.Reads as is-usage-reads
-use Rattle.script.proofs.lock.byte.Reads as byte-Reads
-use Rattle.script.proofs.lock.left_over.Reads as left-over-reads
 use Rattle.script.proofs.lock.lock_refusal.Goals as goal
 
 pub returns-then-script-at : goal.returns-then-script-at

@@ -1,9 +1,5 @@
 -- Two words for each figure.
 use Rattle.tally.specs.Bytes.{figures_in}
-use Rattle.std.proofs.Common.{rules}
-use Rattle.tally.proofs.bytes.decode.Reads as reads
-use Rattle.tally.proofs.bytes.joined.Reads as joined-reads
-use Rattle.value.proofs.word.Reads as word-reads
 use Rattle.tally.proofs.bytes.decode.Goals as goal
 
 pub returns : goal.returns

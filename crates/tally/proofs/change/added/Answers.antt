@@ -1,6 +1,5 @@
 -- Both sums wrap.
 use Rattle.tally.specs.Change.{added_to}
-use Rattle.std.proofs.Common.{rules}
 use Rattle.tally.proofs.change.added.Goals as goal
 
 pub returns : goal.returns

@@ -1,5 +1,5 @@
 -- The new figures are in range, or not.
-use Rattle.std.proofs.Common.{sym, ◌∙◌, rules}
+use Rattle.std.proofs.Common.{sym, ◌∙◌}
 use Rattle.tally.proofs.Ways.{stays, leaves}
 use Rattle.tally.proofs.change.after.Goals as goal
 

@@ -1,5 +1,5 @@
 -- Moved up by 2^31 in 32 bits, and down again in 64.
-use Rattle.std.proofs.Common.{arith, rules}
+use Rattle.std.proofs.Common.{arith}
 use Rattle.tally.proofs.Ways.{extended_is}
 use Rattle.tally.proofs.change.extended.Goals as goal
 

@@ -1,5 +1,5 @@
 -- Both figures are in range.
-use Rattle.std.proofs.Common.{◌&&◌, ap₂, rules}
+use Rattle.std.proofs.Common.{◌&&◌, ap₂}
 use Rattle.tally.specs.Change.{in_range}
 use Rattle.tally.proofs.change.in_range.Goals as goal
 

@@ -1,6 +1,5 @@
 -- No value block, or one.
 use Rattle.tally.proofs.Ways.{no_share, its_share}
-use Rattle.std.proofs.Common.{rules}
 use Rattle.tally.proofs.change.share_of.Goals as goal
 
 pub returns-in_default : goal.returns-in_default

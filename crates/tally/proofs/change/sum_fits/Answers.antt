@@ -1,5 +1,5 @@
 -- The bits moved up are compared with both ends together.
-use Rattle.std.proofs.Common.{arith, rules}
+use Rattle.std.proofs.Common.{arith}
 use Rattle.tally.proofs.Ways.{sum_fits_is}
 use Rattle.tally.proofs.change.sum_fits.Goals as goal
 

@@ -1,5 +1,5 @@
 -- Both differences wrap.
-use Rattle.std.proofs.Common.{arith, rules}
+use Rattle.std.proofs.Common.{arith}
 use Rattle.tally.proofs.Ways.{both_taken}
 use Rattle.tally.proofs.change.taken.Goals as goal
 

@@ -1,6 +1,5 @@
 -- The loop's invariant is `Counting`; the measure is the blocks left.
-use Rattle.std.proofs.Common.{◌-◌, arith, rules}
-use Rattle.tally.proofs.Ways.{Counting, start, turn, finished}
+use Rattle.tally.proofs.Ways.{start, turn, finished}
 use Rattle.tally.proofs.full.count_all.Goals as goal
 
 pub loop-i-init : goal.loop-i-init

@@ -1,5 +1,5 @@
-use Rattle.std.proofs.Common.{◌-◌, arith, rules}
-use Rattle.tally.proofs.Ways.{Counting, start, turn, finished}
+use Rattle.std.proofs.Common.{◌-◌}
+use Rattle.tally.proofs.Ways.{Counting}
 use Rattle.tally.proofs.full.count_all.Given as goal
 
 abbrev pub invariant-loop-i : goal.invariant-loop-i

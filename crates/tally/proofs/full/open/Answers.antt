@@ -1,5 +1,5 @@
 -- No card has this size, or the full count.
-use Rattle.std.proofs.Common.{rules, ne_eqb}
+use Rattle.std.proofs.Common.{ne_eqb}
 use Rattle.tally.specs.Full.{opened_of}
 use Rattle.tally.proofs.full.open.Goals as goal
 

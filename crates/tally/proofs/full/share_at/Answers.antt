@@ -1,6 +1,5 @@
 -- Block 0 and the trailers are left out.
 use Rattle.tally.proofs.Ways.{left_out, looked_at}
-use Rattle.std.proofs.Common.{rules}
 use Rattle.tally.proofs.full.share_at.Goals as goal
 
 pub returns-then-out : goal.returns-then-out

@@ -1,6 +1,5 @@
 -- `decode` reads the value and the address byte where all sixteen bytes agree.
 use Rattle.value.specs.Block.{decode_of}
-use borrow.Author.Rules.{rules}
 use Rattle.value.proofs.block.decode.Goals as goal
 
 pub returns-then-agrees : goal.returns-then-agrees

@@ -3,7 +3,6 @@ use native.Mathlib.Omega.{arith}
 use Rattle.value.specs.Block.{encode_of}
 use Rattle.value.proofs.Blocks.{bits_signed}
 use Rattle.value.proofs.Words.{inverse_four}
-use borrow.Author.Rules.{rules}
 use Rattle.value.proofs.block.encode.Goals as goal
 
 pub returns : goal.returns

@@ -2,7 +2,6 @@
 use mathlib.Core.Path.{sym, ◌∙◌}
 use native.Mathlib.Omega.{arith}
 use Rattle.value.proofs.Sums.{below_zero_lem, minus_low, minus_in}
-use borrow.Author.Rules.{rules}
 use Rattle.value.proofs.sum.minus.Goals as goal
 
 pub returns-then-is_negative : goal.returns-then-is_negative

@@ -2,7 +2,6 @@
 use mathlib.Core.Path.{sym, ◌∙◌}
 use native.Mathlib.Omega.{arith}
 use Rattle.value.proofs.Sums.{below_zero_lem, plus_high, plus_in}
-use borrow.Author.Rules.{rules}
 use Rattle.value.proofs.sum.plus.Goals as goal
 
 pub returns-then-is_negative : goal.returns-then-is_negative
