@@ -18,15 +18,15 @@ function read(line, i, n, word) {
     n = split(line, word, /[ (){},]+/)
     for (i = 1; i <= n; i++) {
         says[name, word[i]]
-        if (name in statement && (word[i] == "OneResult" || (word[i - 1] == "≡" && word[i] ~ /′$/))) single[name]
+        if (name in statement && (word[i] == "OneResult" || (word[i - 1] == "≡" && word[i] ~ /'(\.now)?$/))) single[name]
     }
 }
 FNR == 1 { close_file() }
 /^ *[{]-/ { aside = 1 }
 aside { if (/-[}]/) aside = 0; next }
 { sub(/(^| )--.*/, "") }
-$1 == "use" && $3 == "as" && $2 ~ /^Rattle·.*\.proofs\./ {
-    path = $2; sub(/^Rattle·/, "", path); sub(/\.Reads$/, "", path); sub(/\.proofs\./, " ", path)
+$1 == "use" && $3 == "as" && $2 ~ /^Rattle\..*\.(proofs|specs\.contracts)\./ {
+    path = $2; sub(/^Rattle\./, "", path); sub(/\.Reads$/, "", path); sub(/\.(proofs|specs\.contracts)\./, " ", path)
     contract[$4] = path
     next
 }
