@@ -20,6 +20,7 @@ fn version_code(version: Version) -> u8
 }
 
 // The sector that a number names: one that no card has, where it is more than a byte holds.
+#[tactic(auto, unfolding(crate::specs::Desk::sector_named))]
 fn sector_named(number: u32) -> Sector
     ensures { result ≡ sector_named number }
 {

@@ -47,6 +47,7 @@ pub struct Looked {
 }
 
 // What an announcing byte says of a card with so many sectors.
+#[tactic(auto, unfolding(crate::specs::Directory::announced_of))]
 fn announced(byte: u8, sectors: usize) -> Version
     ensures { result ≡ announced_of byte sectors }
 {

@@ -8,6 +8,7 @@ use crate::{Found, Looked, Part, Version, entries, parts};
 use layout::{Block, Sector};
 
 // The sector of a place, counted from 1; sector 0 for a place that no directory has.
+#[tactic(auto, unfolding(crate::specs::Lookup::sector_of_place))]
 pub fn sector_of_place(place: u8) -> Sector
     ensures { result ≡ sector_of_place place }
 {

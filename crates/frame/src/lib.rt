@@ -44,6 +44,7 @@ fn eight(code: u8, block: u8) -> Command
     }
 }
 
+#[tactic(auto, unfolding(crate::specs::Command::two_bytes_of))]
 fn two(code: u8, block: u8) -> Command
     ensures { result ≡ two_bytes_of code block }
 {
@@ -80,6 +81,7 @@ fn first_command(frame: &[u8]) -> Command
 }
 
 // A second frame is taken by the stage, whatever it begins with.
+#[tactic(auto, unfolding(crate::specs::Command::command_of))]
 pub fn command_of(stage: Stage, frame: &[u8]) -> Command
     ensures { result ≡ command_of stage frame.now }
 {
