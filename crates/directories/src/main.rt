@@ -6,13 +6,14 @@ mod files;
 mod record;
 
 use files::{Kind, load, play, space};
+use std::io;
 
-fn main() {
+fn main(rt: HostRuntime) -> io::Result<()> {
     let mut file = space();
-    let n = load(b"directories.bin", &mut file);
+    let n = load(&rt, "directories.bin", &mut file);
     let directories = &file[..n];
-    play(b"checksums.bin", Kind::Checksums, directories);
-    play(b"versions.bin", Kind::Versions, directories);
-    play(b"directories.bin", Kind::Directories, directories);
-    play(b"lookups.bin", Kind::Lookups, directories);
+    play(&rt, "checksums.bin", Kind::Checksums, directories)?;
+    play(&rt, "versions.bin", Kind::Versions, directories)?;
+    play(&rt, "directories.bin", Kind::Directories, directories)?;
+    play(&rt, "lookups.bin", Kind::Lookups, directories)
 }

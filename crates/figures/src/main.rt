@@ -10,22 +10,40 @@ mod rights;
 mod values;
 
 use play::{Figures, play};
+use std::io;
 
-fn main() {
-    play(b"layout", b"layout.txt", Figures::Layout);
-    play(b"access_bytes", b"access_bytes.txt", Figures::AccessBytes);
+fn main(rt: HostRuntime) -> io::Result<()> {
+    play(&rt, "layout", "layout.txt", Figures::Layout)?;
     play(
-        b"access_format",
-        b"access_format.txt",
+        &rt,
+        "access_bytes",
+        "access_bytes.txt",
+        Figures::AccessBytes,
+    )?;
+    play(
+        &rt,
+        "access_format",
+        "access_format.txt",
         Figures::AccessFormat,
-    );
-    play(b"rights_data", b"rights_data.txt", Figures::RightsData);
+    )?;
+    play(&rt, "rights_data", "rights_data.txt", Figures::RightsData)?;
     play(
-        b"rights_trailer",
-        b"rights_trailer.txt",
+        &rt,
+        "rights_trailer",
+        "rights_trailer.txt",
         Figures::RightsTrailer,
-    );
-    play(b"value_blocks", b"value_blocks.txt", Figures::ValueBlocks);
-    play(b"value_format", b"value_format.txt", Figures::ValueFormat);
-    play(b"checksums", b"checksums.txt", Figures::Checksums);
+    )?;
+    play(
+        &rt,
+        "value_blocks",
+        "value_blocks.txt",
+        Figures::ValueBlocks,
+    )?;
+    play(
+        &rt,
+        "value_format",
+        "value_format.txt",
+        Figures::ValueFormat,
+    )?;
+    play(&rt, "checksums", "checksums.txt", Figures::Checksums)
 }

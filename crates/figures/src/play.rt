@@ -1,9 +1,12 @@
 // A file of figures: read, its lines counted, and those that agree.
 ghost use Rattle.std.specs.Prelude.{◌≡◌, ◌≤◌, ◌<◌, length};
-ghost use Rattle.io.specs.Counts.{IsPrefixLen};
+ghost use Rattle.std.specs.Counts.{IsPrefixLen};
 
 use crate::{bits, blocks, checksums, line, rights, values};
-use libc::STDOUT_FILENO;
+use std::fs::File;
+use std::io;
+use std::io::Read;
+use std::rt::Files;
 
 // The files, by what their lines hold.
 #[derive(Clone, Copy)]
@@ -84,12 +87,8 @@ fn count(figures: Figures, text: &[u8]) -> Score {
     Score { agreeing, lines }
 }
 
-fn print_score(s: Score) {
-    io::write_all(STDOUT_FILENO, b" ");
-    io::print_decimal(STDOUT_FILENO, s.agreeing as u64);
-    io::write_all(STDOUT_FILENO, b" of ");
-    io::print_decimal(STDOUT_FILENO, s.lines as u64);
-    io::write_all(STDOUT_FILENO, b"\n");
+fn print_score(rt: &impl Print, s: Score) -> io::Result<()> {
+    println!(rt; " {} of {}", s.agreeing, s.lines)
 }
 
 // Room for any of the files.
@@ -99,27 +98,42 @@ fn space() -> [u8; 131072]
     [0u8; 131072]
 }
 
-// Reads a file into a space, and answers how many bytes came; none where it cannot be opened or read.
-fn load(path: &[u8], space: &mut [u8]) -> usize
+// Reads until the space is full, the file ends or a read fails, and answers how many bytes came.
+fn fill(file: &mut impl Read, space: &mut [u8]) -> usize
     ensures { IsPrefixLen result space.new }
 {
-    let fd = os::open_read(path);
-    if fd < 0 {
-        return 0;
+    let mut done = 0;
+    while done < space.len() {
+        match file.read(&mut space[done..]) {
+            Ok(0) | Err(_) => break,
+            Ok(n) => done += n,
+        }
     }
-    let n = io::read_full(fd, space);
-    libc::close(fd);
-    n
+    done
+}
+
+// Reads a file into a space, and answers how many bytes came; none where it cannot be opened or read.
+fn load(rt: &impl Files, path: &str, space: &mut [u8]) -> usize
+    ensures { IsPrefixLen result space.new }
+{
+    match File::open(rt, path) {
+        Ok(mut file) => fill(&mut file, space),
+        Err(_) => 0,
+    }
 }
 
 // Prints a file's name and its score, or that the file is missing.
-pub(crate) fn play(name: &[u8], path: &[u8], figures: Figures) {
-    io::write_all(STDOUT_FILENO, name);
+pub(crate) fn play(
+    rt: &(impl Files + Print),
+    name: &str,
+    path: &str,
+    figures: Figures,
+) -> io::Result<()> {
+    print!(rt; "{name}")?;
     let mut text = space();
-    let n = load(path, &mut text);
+    let n = load(rt, path, &mut text);
     if n == 0 {
-        io::write_all(STDOUT_FILENO, b" missing\n");
-        return;
+        return println!(rt; " missing");
     }
-    print_score(count(figures, &text[..n]));
+    print_score(rt, count(figures, &text[..n]))
 }

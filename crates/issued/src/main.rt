@@ -7,8 +7,9 @@ mod files;
 mod record;
 
 use files::{Kind, play};
+use std::io;
 
-fn main() {
-    play(b"directories.bin", Kind::Directories);
-    play(b"access_bytes.bin", Kind::AccessBytes);
+fn main(rt: HostRuntime) -> io::Result<()> {
+    play(&rt, "directories.bin", Kind::Directories)?;
+    play(&rt, "access_bytes.bin", Kind::AccessBytes)
 }

@@ -5,10 +5,12 @@ mod image;
 mod print;
 mod runs;
 
-fn main() {
-    runs::sample();
-    runs::key_b();
-    runs::last_block();
-    runs::keys_change();
-    runs::wrong_key();
+use std::io;
+
+fn main(rt: HostRuntime) -> io::Result<()> {
+    runs::sample(&rt)?;
+    runs::key_b(&rt)?;
+    runs::last_block(&rt)?;
+    runs::keys_change(&rt)?;
+    runs::wrong_key(&rt)
 }

@@ -2,7 +2,7 @@
 ghost use Rattle.std.specs.Prelude.{◌<◌};
 
 use card::{Answer, Sign};
-use libc::STDOUT_FILENO;
+use std::io;
 
 fn digit(n: u8) -> u8
     requires { n < 16 }
@@ -14,49 +14,36 @@ fn digit(n: u8) -> u8
 }
 
 // A byte as two hexadecimal digits.
-fn print_byte(b: u8) {
+fn print_byte(rt: &impl Print, b: u8) -> io::Result<()> {
     let digits = [digit(b / 16), digit(b % 16)];
-    io::write_all(STDOUT_FILENO, &digits);
+    rt.write_all(&digits)
 }
 
-fn print_block(bytes: [u8; 16]) {
-    let mut i = 0;
-    while i < 16 {
-        print_byte(bytes[i]);
-        i += 1;
+fn print_block(rt: &impl Print, bytes: [u8; 16]) -> io::Result<()> {
+    for b in bytes {
+        print_byte(rt, b)?;
     }
+    Ok(())
 }
 
 // What goes on the air.
-fn print_sign(sign: Sign, reply: [u8; 16]) {
+fn print_sign(rt: &impl Print, sign: Sign, reply: [u8; 16]) -> io::Result<()> {
     match sign {
-        Sign::Ack => {
-            io::write_all(STDOUT_FILENO, b"A");
-        }
-        Sign::Nak => {
-            io::write_all(STDOUT_FILENO, b"N");
-        }
-        Sign::Data => print_block(reply),
-        Sign::Nothing => {
-            io::write_all(STDOUT_FILENO, b"-");
-        }
+        Sign::Ack => print!(rt; "A"),
+        Sign::Nak => print!(rt; "N"),
+        Sign::Data => print_block(rt, reply),
+        Sign::Nothing => print!(rt; "-"),
     }
 }
 
 // The line of an event.
-pub(crate) fn event(number: u64, a: Answer) {
-    let sign = a.sign;
-    let reply = a.reply;
-    io::print_decimal(STDOUT_FILENO, number);
-    io::write_all(STDOUT_FILENO, b" ");
-    io::print_decimal(STDOUT_FILENO, a.number as u64);
-    io::write_all(STDOUT_FILENO, b" ");
-    print_sign(sign, reply);
-    io::write_all(STDOUT_FILENO, b"\n");
+pub(crate) fn event(rt: &impl Print, number: u64, a: Answer) -> io::Result<()> {
+    print!(rt; "{number} {} ", a.number)?;
+    print_sign(rt, a.sign, a.reply)?;
+    println!(rt)
 }
 
 // The line above a run.
-pub(crate) fn title(text: &[u8]) {
-    io::write_all(STDOUT_FILENO, text);
-    io::write_all(STDOUT_FILENO, b"\n");
+pub(crate) fn title(rt: &impl Print, text: &str) -> io::Result<()> {
+    println!(rt; "{text}")
 }

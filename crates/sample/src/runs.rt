@@ -3,12 +3,19 @@ ghost use Rattle.std.specs.Prelude.{◌≤◌, ◌<◌};
 
 use crate::{image, print};
 use session::Session;
+use std::io;
 
 // One event: the card takes the frame, and its line is printed.
-fn step(image: &mut [u8], s: Session, number: u64, frame: &[u8]) -> Session {
+fn step(
+    rt: &impl Print,
+    image: &mut [u8],
+    s: Session,
+    number: u64,
+    frame: &[u8],
+) -> io::Result<Session> {
     let a = card::step(image, s, frame);
-    print::event(number, a);
-    a.session
+    print::event(rt, number, a)?;
+    Ok(a.session)
 }
 
 // The end of an event at a place whose frame has n bytes; at most the end of them all.
@@ -24,21 +31,23 @@ fn end_of(at: usize, n: u8, end: usize) -> usize
 }
 
 // Plays events, numbered from 1.
-fn play(image: &mut [u8], events: &[u8]) {
+fn play(rt: &impl Print, image: &mut [u8], events: &[u8]) -> io::Result<()> {
     let mut s = session::fresh();
     let mut number: u64 = 1;
     let mut at = 0;
     while at < events.len() {
         let end = end_of(at, events[at], events.len());
-        s = step(image, s, number, &events[at + 1..end]);
+        s = step(rt, image, s, number, &events[at + 1..end])?;
         number += 1;
         at = end;
     }
+    Ok(())
 }
 
 // One is taken off a value of 100; then a block of another sector is refused, and every right is gone.
-pub(crate) fn sample() {
+pub(crate) fn sample(rt: &impl Print) -> io::Result<()> {
     play(
+        rt,
         &mut image::delivered(),
         b"\x08\x60\x04\xFF\xFF\xFF\xFF\xFF\xFF\
           \x02\xC0\x04\
@@ -47,46 +56,50 @@ pub(crate) fn sample() {
           \x02\x30\x04\
           \x02\x30\x08\
           \x02\x30\x04",
-    );
+    )
 }
 
 // Key B matches and is accepted; since it can be read, the Read is refused.
-pub(crate) fn key_b() {
-    print::title(b"transport trailer, key B");
+pub(crate) fn key_b(rt: &impl Print) -> io::Result<()> {
+    print::title(rt, "transport trailer, key B")?;
     play(
+        rt,
         &mut image::delivered(),
         b"\x08\x61\x04\xFF\xFF\xFF\xFF\xFF\xFF\
           \x02\x30\x04",
-    );
+    )
 }
 
-pub(crate) fn last_block() {
-    print::title(b"the last block of a 1K card");
+pub(crate) fn last_block(rt: &impl Print) -> io::Result<()> {
+    print::title(rt, "the last block of a 1K card")?;
     play(
+        rt,
         &mut image::delivered(),
         b"\x08\x60\x3F\xFF\xFF\xFF\xFF\xFF\xFF\
           \x02\x30\x3F\
           \x02\x30\x40",
-    );
+    )
 }
 
 // The keys are written, and the access bits and the user byte are not.
-pub(crate) fn keys_change() {
-    print::title(b"trailer 000, written by key A");
+pub(crate) fn keys_change(rt: &impl Print) -> io::Result<()> {
+    print::title(rt, "trailer 000, written by key A")?;
     play(
+        rt,
         &mut image::zero_bits(),
         b"\x08\x60\x07\xFF\xFF\xFF\xFF\xFF\xFF\
           \x02\xA0\x07\
           \x10\x11\x22\x33\x44\x55\x66\x00\x00\x00\x00\xAA\xBB\xCC\xDD\xEE\xFF\
           \x08\x60\x07\x11\x22\x33\x44\x55\x66\
           \x02\x30\x07",
-    );
+    )
 }
 
 // After a refused key the rights of before are gone: nothing is transferred, and the value is still 100.
-pub(crate) fn wrong_key() {
-    print::title(b"a wrong key ends every right");
+pub(crate) fn wrong_key(rt: &impl Print) -> io::Result<()> {
+    print::title(rt, "a wrong key ends every right")?;
     play(
+        rt,
         &mut image::delivered(),
         b"\x08\x60\x04\xFF\xFF\xFF\xFF\xFF\xFF\
           \x02\xC0\x04\
@@ -95,5 +108,5 @@ pub(crate) fn wrong_key() {
           \x02\xB0\x04\
           \x08\x60\x04\xFF\xFF\xFF\xFF\xFF\xFF\
           \x02\x30\x04",
-    );
+    )
 }

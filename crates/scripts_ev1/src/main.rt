@@ -2,9 +2,13 @@
 #![tactic(auto)]
 
 ghost use Rattle.std.specs.Prelude.{◌≡◌, length};
-ghost use Rattle.io.specs.Counts.{IsPrefixLen};
+ghost use Rattle.std.specs.Counts.{IsPrefixLen};
 
-use libc::STDOUT_FILENO;
+use std::env::{Env, FillError};
+use std::fs::File;
+use std::io::Read;
+use std::rt::Files;
+use std::{io, str};
 
 fn space() -> [u8; 23103]
     ensures { 23103 ≡ length result }
@@ -12,50 +16,69 @@ fn space() -> [u8; 23103]
     [0u8; 23103]
 }
 
-// Reads a file into a space, and answers how many bytes came; none where it cannot be opened.
-fn load(path: &[u8], space: &mut [u8]) -> usize
+// Reads until the space is full, the file ends or a read fails, and answers how many bytes came.
+fn fill(file: &mut impl Read, space: &mut [u8]) -> usize
     ensures { IsPrefixLen result space.new }
 {
-    let fd = os::open_read(path);
-    if fd < 0 {
-        return 0;
+    let mut done = 0;
+    while done < space.len() {
+        match file.read(&mut space[done..]) {
+            Ok(0) | Err(_) => break,
+            Ok(n) => done += n,
+        }
     }
-    let n = io::read_full(fd, space);
-    libc::close(fd);
-    n
+    done
+}
+
+// Reads a file into a space, and answers how many bytes came; none where it cannot be opened, as where its path is not text.
+fn load(rt: &impl Files, path: &[u8], space: &mut [u8]) -> usize
+    ensures { IsPrefixLen result space.new }
+{
+    let Ok(path) = str::from_utf8(path) else {
+        return 0;
+    };
+    match File::open(rt, path) {
+        Ok(mut file) => fill(&mut file, space),
+        Err(_) => 0,
+    }
 }
 
 // The name without its ending of seven bytes.
-fn print_name(path: &[u8]) {
-    io::write_all(STDOUT_FILENO, b"== ");
+fn print_name(rt: &impl Print, path: &[u8]) -> io::Result<()> {
+    rt.write_all(b"== ")?;
     if 7 <= path.len() {
         let end = path.len() - 7;
-        io::write_all(STDOUT_FILENO, &path[..end]);
+        rt.write_all(&path[..end])?;
     }
-    io::write_all(STDOUT_FILENO, b"\n");
+    rt.write_all(b"\n")
 }
 
-fn play(path: &[u8]) {
-    print_name(path);
+fn play(rt: &(impl Files + Print), path: &[u8]) -> io::Result<()> {
+    print_name(rt, path)?;
     let mut input = space();
-    let n = load(path, &mut input);
+    let n = load(rt, path, &mut input);
     let mut out = [0u8; 65536];
     let length = play::play_ev1(&input[..n], &mut out);
-    io::write_all(STDOUT_FILENO, &out[..length]);
+    rt.write_all(&out[..length])
 }
 
-// Plays the script that an argument names.
-fn play_named(i: usize) {
+// Plays the script that an argument names, and answers whether there is that argument. One of more than 64 bytes counts as empty.
+fn play_named(rt: &(impl Env + Files + Print), i: usize) -> io::Result<bool> {
     let mut name = [0u8; 64];
-    let n = os::arg(i, &mut name);
-    play(&name[..n]);
+    let n = match rt.arg(i, &mut name) {
+        Ok(n) => n,
+        Err(FillError::TooLong) => 0,
+        Err(FillError::NotPresent) => return Ok(false),
+    };
+    play(rt, &name[..n])?;
+    Ok(true)
 }
 
-fn main() {
-    let count = os::arg_count();
-    let mut i: usize = 1;
-    while i < count {
-        play_named(i);
-        i += 1;
+fn main(rt: HostRuntime) -> io::Result<()> {
+    for i in 1..usize::MAX {
+        if !play_named(&rt, i)? {
+            break;
+        }
     }
+    Ok(())
 }

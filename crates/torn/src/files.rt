@@ -1,9 +1,12 @@
 // The files: read, their records counted, and those that agree. All records of a file have the same length.
 ghost use Rattle.std.specs.Prelude.{◌≡◌, ◌≤◌, ◌<◌, length};
-ghost use Rattle.io.specs.Counts.{IsPrefixLen};
+ghost use Rattle.std.specs.Counts.{IsPrefixLen};
 
 use crate::blocks;
-use libc::STDOUT_FILENO;
+use std::fs::File;
+use std::io;
+use std::io::Read;
+use std::rt::Files;
 
 // The files, by what their records hold.
 #[derive(Clone, Copy)]
@@ -65,12 +68,8 @@ fn count(kind: Kind, file: &[u8]) -> Score {
     Score { agreeing, records }
 }
 
-fn print_score(s: Score) {
-    io::write_all(STDOUT_FILENO, b" ");
-    io::print_decimal(STDOUT_FILENO, s.agreeing as u64);
-    io::write_all(STDOUT_FILENO, b" of ");
-    io::print_decimal(STDOUT_FILENO, s.records as u64);
-    io::write_all(STDOUT_FILENO, b"\n");
+fn print_score(rt: &impl Print, s: Score) -> io::Result<()> {
+    println!(rt; " {} of {}", s.agreeing, s.records)
 }
 
 // Room for any of the files.
@@ -80,23 +79,34 @@ fn space() -> [u8; 16384]
     [0u8; 16384]
 }
 
-// Reads a file into a space, and answers how many bytes came; none where it cannot be opened or read.
-fn load(name: &[u8], space: &mut [u8]) -> usize
+// Reads until the space is full, the file ends or a read fails, and answers how many bytes came.
+fn fill(file: &mut impl Read, space: &mut [u8]) -> usize
     ensures { IsPrefixLen result space.new }
 {
-    let fd = os::open_read(name);
-    if fd < 0 {
-        return 0;
+    let mut done = 0;
+    while done < space.len() {
+        match file.read(&mut space[done..]) {
+            Ok(0) | Err(_) => break,
+            Ok(n) => done += n,
+        }
     }
-    let n = io::read_full(fd, space);
-    libc::close(fd);
-    n
+    done
+}
+
+// Reads a file into a space, and answers how many bytes came; none where it cannot be opened or read.
+fn load(rt: &impl Files, name: &str, space: &mut [u8]) -> usize
+    ensures { IsPrefixLen result space.new }
+{
+    match File::open(rt, name) {
+        Ok(mut file) => fill(&mut file, space),
+        Err(_) => 0,
+    }
 }
 
 // Prints a file's name, how many of its records agree, and how many there are. A file that is missing has none.
-pub(crate) fn play(name: &[u8], kind: Kind) {
+pub(crate) fn play(rt: &(impl Files + Print), name: &str, kind: Kind) -> io::Result<()> {
     let mut file = space();
-    let n = load(name, &mut file);
-    io::write_all(STDOUT_FILENO, name);
-    print_score(count(kind, &file[..n]));
+    let n = load(rt, name, &mut file);
+    print!(rt; "{name}")?;
+    print_score(rt, count(kind, &file[..n]))
 }

@@ -6,8 +6,9 @@ mod files;
 mod record;
 
 use files::{Kind, play};
+use std::io;
 
-fn main() {
-    play(b"blocks.bin", Kind::Blocks);
-    play(b"forms.bin", Kind::Forms);
+fn main(rt: HostRuntime) -> io::Result<()> {
+    play(&rt, "blocks.bin", Kind::Blocks)?;
+    play(&rt, "forms.bin", Kind::Forms)
 }
