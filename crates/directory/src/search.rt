@@ -78,7 +78,8 @@ fn lookup_two(image: &[u8], wanted: u32) -> Looked
     let e = memory::content(image, Block(66));
     let first = parts::right_two(a, b);
     let second = parts::right_three(c, d, e);
-    if first & second {
+    let both = first & second;
+    if both {
         let place = entries::place_in_first(a, b, wanted);
         if place != 0 {
             return answer_at(38, place);

@@ -51,6 +51,7 @@ fn sector_refusal(x: AccessBytes, l: Letter) -> u8
 }
 
 // Check 3, then those.
+#[tactic(auto, unfolding(crate::specs::Code::zero_refusal, layout::specs::Layout::sector_of))]
 fn zero_refusal(image: &[u8], auth: Auth) -> u8
     ensures { result ≡ zero_refusal image.now auth }
 {
@@ -68,6 +69,7 @@ fn zero_refusal(image: &[u8], auth: Auth) -> u8
 }
 
 // What a Read of block 0 is refused with on an image of a card, where no second frame is awaited; 0 where it is not.
+#[tactic(auto, unfolding(crate::specs::Code::read_refusal, judge::specs::Checks::incoherent))]
 pub(crate) fn refusal_of(image: &[u8], s: Session) -> u8
     ensures { result ≡ read_refusal image.now s }
 {

@@ -32,6 +32,7 @@ fn mend_all(image: &mut [u8], names: &[u8], report: &mut [u8; 768])
 }
 
 // 11, 30, or 0 for a call that is not refused.
+#[tactic(auto, unfolding(crate::specs::All::call_number))]
 fn call_number(bytes: usize, names: usize) -> u8
     ensures { result ≡ call_number bytes names }
 {

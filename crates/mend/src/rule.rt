@@ -28,6 +28,7 @@ fn two_agree(a: u32, b: u32, c: u32) -> bool
 }
 
 // What two of three say.
+#[tactic(auto, unfolding(crate::specs::Rule::majority_of_three))]
 fn majority_of_three(a: u32, b: u32, c: u32) -> u32
     ensures { result ≡ majority_of_three a b c }
 {

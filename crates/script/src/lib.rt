@@ -70,6 +70,7 @@ pub fn next_at(script: &[u8], at: usize) -> usize
 }
 
 // The refusal of the event whose count stands at a place; 0 where there is none.
+#[tactic(auto, unfolding(crate::specs::Script::event_refusal))]
 pub fn event_refusal(script: &[u8], at: usize) -> u8
     ensures { result ≡ event_refusal script.now at }
 {
@@ -111,6 +112,7 @@ fn walk(script: &[u8], count: usize, start: usize) -> Walked
 }
 
 // Nothing is left over after the last event.
+#[tactic(auto, unfolding(crate::specs::Script::end_refusal))]
 fn end_refusal(len: usize, end: Walked) -> u8
     ensures { result ≡ end_refusal len end }
 {

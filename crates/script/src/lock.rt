@@ -31,6 +31,7 @@ fn left_over(script: &[u8], at: usize) -> u8
     0
 }
 
+#[tactic(auto, unfolding(crate::specs::Lock::lock_refusal))]
 fn lock_refusal(script: &[u8], at: usize) -> u8
     ensures { result ≡ lock_refusal script.now at }
 {

@@ -5,6 +5,7 @@ use Rattle.play.specs.Run.{reading_for}
 use Rattle.play.specs.declared.events.Form.TheVariants.{Results}
 use Rattle.play.proofs.Runs.{eighteen, nothing_played, ready, played}
 use borrow.Author.Rules.{rules}
+use Rattle.std.proofs.Common.{arith}
 use Rattle.play.proofs.run.Goals as goal
 
 pub returns-then-refusal_of-ne0 : goal.returns-then-refusal_of-ne0
@@ -13,7 +14,7 @@ returns-then-refusal_of-ne0 c = let r = nothing_played Results old_card eighteen
 
 pub keep_events-ended-requires : goal.keep_events-ended-requires
 unfolding reading_for
-keep_events-ended-requires c = ready Results old_card _ (sym c.refusal_of.ensures ∙ c.if-refusal_of-ne0.false) _ _ c.event_count-count.ensures c.events_start-start.ensures _ (search rules)
+keep_events-ended-requires c = ready Results old_card _ (sym c.refusal_of.ensures ∙ (omega arith)) _ _ c.event_count-count.ensures c.events_start-start.ensures _ (search rules)
 
 pub returns : goal.returns
 unfolding reading_for

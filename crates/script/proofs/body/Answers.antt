@@ -1,6 +1,7 @@
 -- The refusals in reading order.
 use mathlib.Core.Path.{◌∙◌}
 use Rattle.script.proofs.Ways.{too_short, foreign_size, no_image, no_count, too_many, all_events}
+use Rattle.std.proofs.Common.{arith}
 use Rattle.script.proofs.body.Goals as goal
 
 pub returns-then-len-lt2 : goal.returns-then-len-lt2
@@ -24,4 +25,4 @@ returns-then-count-gt1000 c = let size = c.image_size-size.ensures.value in
 
 pub returns : goal.returns
 returns c = let size = c.image_size-size.ensures.value in
-    c.walk.ensures ∙ rw (c.events_start.ensures, c.event_count-count.ensures) (all_events _ _ c.if-len-lt2.false _ (c.is_no_size.ensures ∙ rw size) c.if-is_no_size.false (rw size at c.if-len-size.false) (rw size at c.if-len-size-2.false) (rw c.event_count-count.ensures at c.if-count-gt1000.false))
+    c.walk.ensures ∙ rw (c.events_start.ensures, c.event_count-count.ensures) (all_events _ _ c.if-len-lt2.false _ (c.is_no_size.ensures ∙ rw size) c.if-is_no_size.false (rw size at c.if-len-size.false) (rw size at c.if-len-size-2.false) (omega (arith, c.event_count-count.ensures)))

@@ -2,6 +2,7 @@
 use mathlib.Core.Path.{◌∙◌}
 use Rattle.sealed.specs.Sealed.{sealed_reply}
 use Rattle.sealed.proofs.Ways.{no_data_lem}
+use Rattle.std.proofs.Common.{rules}
 use Rattle.sealed.proofs.reply_of.Goals as goal
 
 pub returns-in-Data : goal.returns-in-Data
@@ -9,4 +10,4 @@ unfolding sealed_reply
 returns-in-Data c = c.with_seal.ensures ∙ rw c.in-Data.is
 
 pub returns-in_default : goal.returns-in_default
-returns-in_default c = no_data_lem _ _ c.in_default.not-Data
+returns-in_default c = no_data_lem _ _ (search rules)

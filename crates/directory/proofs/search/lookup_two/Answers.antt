@@ -9,15 +9,15 @@ pub returns-then-place-ne0 : goal.returns-then-place-ne0
 unfolding part_of
 returns-then-place-ne0 c = c.answer_at.ensures
     ∙ right_two_first _ _ _ _ (ap₂ ◌++◌ c.content-a.ensures c.content-b.ensures) (ap₂ ◌++◌ c.content-c.ensures (ap₂ ◌++◌ c.content-d.ensures c.content-e.ensures)) _ _
-    c.right_two-first.ensures c.right_three-second.ensures _ c.if-first-second.true c.place_in_first-place.ensures c.if-place-ne0.true
+    c.right_two-first.ensures c.right_three-second.ensures _ c.if-both.true c.place_in_first-place.ensures c.if-place-ne0.true
 
-pub returns-then-first-second : goal.returns-then-first-second
+pub returns-then-both : goal.returns-then-both
 unfolding part_of
-returns-then-first-second c = c.answer_at-then-first-second.ensures
+returns-then-both c = c.answer_at-then-both.ensures
     ∙ right_two_second _ _ _ _ (ap₂ ◌++◌ c.content-a.ensures c.content-b.ensures) (ap₂ ◌++◌ c.content-c.ensures (ap₂ ◌++◌ c.content-d.ensures c.content-e.ensures)) _ _
-    c.right_two-first.ensures c.right_three-second.ensures _ c.if-first-second.true c.place_in_first-place.ensures _ c.if-place-ne0.false c.place_in_second.ensures
+    c.right_two-first.ensures c.right_three-second.ensures _ c.if-both.true c.place_in_first-place.ensures _ c.if-place-ne0.false c.place_in_second.ensures
 
 pub returns : goal.returns
 unfolding part_of
 returns c = c.refused.ensures
-    ∙ wrong_two _ _ _ _ (ap₂ ◌++◌ c.content-a.ensures c.content-b.ensures) (ap₂ ◌++◌ c.content-c.ensures (ap₂ ◌++◌ c.content-d.ensures c.content-e.ensures)) _ _ c.right_two-first.ensures c.right_three-second.ensures c.if-first-second.false
+    ∙ wrong_two _ _ _ _ (ap₂ ◌++◌ c.content-a.ensures c.content-b.ensures) (ap₂ ◌++◌ c.content-c.ensures (ap₂ ◌++◌ c.content-d.ensures c.content-e.ensures)) _ _ c.right_two-first.ensures c.right_three-second.ensures c.if-both.false

@@ -1,6 +1,7 @@
 -- Refused, with a report of zeros; or all names in their order.
 use mathlib.Core.Path.{refl}
 use Rattle.mend.proofs.Ways.{call_refused, call_done, few}
+use Rattle.std.proofs.Common.{arith}
 use Rattle.mend.proofs.all.mend.Goals as goal
 
 pub returns-then-number-ne0 : goal.returns-then-number-ne0
@@ -9,7 +10,7 @@ returns-then-number-ne0 c = let a = c.args in
 
 pub mend_all-requires : goal.mend_all-requires
 mend_all-requires c = let a = c.args in
-    (few a.image.now a.names.now _ c.call_number-number.ensures c.if-number-ne0.false, refl)
+    (few a.image.now a.names.now _ c.call_number-number.ensures (omega arith), refl)
 
 pub returns : goal.returns
 returns c = let a = c.args in

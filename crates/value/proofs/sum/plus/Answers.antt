@@ -12,3 +12,6 @@ returns-then-sum-ge4294967296 c = plus_high c.args.value c.args.operand (omega a
 
 pub returns : goal.returns
 returns c = plus_in c.args.value c.args.operand (omega arith) (omega arith) (sym c.is_negative.ensures ∙ c.if-is_negative.false) c.lowered.result (omega arith) (omega arith)
+
+pub lowered-requires : goal.lowered-requires
+lowered-requires c = omega arith
