@@ -14,7 +14,7 @@ returns c = let args = c.args in
     let met = c.match-decode in
     let told : (met.a ≡ chip_answer image bytes frame) × (met.image ≡ chip_image image bytes frame) =
     elim met.branch [
-      in-Session w ↦ let law = with_session image bytes frame _ (sym d ∙ w.in-Session.is) in (w.a-is ∙ w.step-a.ensures.value ∙ law.0, w.image-is ∙ w.step-a.ensures.image_after ∙ law.1)
-    | in-Nothing w ↦ let law = without_session image bytes frame (sym d ∙ w.in-Nothing.is) in (w.a-is ∙ w.no_session-a.ensures ∙ law.0, w.image-is ∙ law.1)
+      | in-Session w ↦ let law = with_session image bytes frame _ (sym d ∙ w.in-Session.is) in (w.a-is ∙ w.step-a.ensures.value ∙ law.0, w.image-is ∙ w.step-a.ensures.image_after ∙ law.1)
+      | in-Nothing w ↦ let law = without_session image bytes frame (sym d ∙ w.in-Nothing.is) in (w.a-is ∙ w.no_session-a.ensures ∙ law.0, w.image-is ∙ law.1)
     ] in
     record { value = c.give.ensures.value ∙ rw told.0; session_after = c.give.ensures.session_after ∙ rw told.0; reply_after = c.give.ensures.reply_after ∙ rw told.0; image_after = told.1 }
