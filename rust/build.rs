@@ -1,4 +1,4 @@
-// The libraries are built by `rt staticlib NAME`, one for each of these names, beside this crate or where TIRLWHEEL_LIB says.
+// The libraries are built by `./libraries`, one for each of these names, beside this crate or where TIRLWHEEL_LIB says.
 const LIBRARIES: [&str; 9] = [
     "edge", "chip", "cardedge", "cardchip", "keptedge", "keptchip", "printout", "evprint", "desk",
 ];

@@ -43,8 +43,7 @@ fn answer(image: &mut [u8], k: CardRecord, session: [u8; 12], frame: &[u8]) -> S
 }
 
 // One frame with its checksum. The two records are replaced by the next ones, and the reply is filled.
-#[unsafe(no_mangle)]
-pub extern "C" fn tirlwheel_card_sealed_frame(
+pub fn tirlwheel_card_sealed_frame(
     image: &mut [u8],
     card: &mut [u8; 4],
     session: &mut [u8; 12],

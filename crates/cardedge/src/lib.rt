@@ -44,8 +44,7 @@ fn answer(image: &mut [u8], k: CardRecord, session: [u8; 12], frame: &[u8]) -> C
 }
 
 // One frame. The two records are replaced by the next ones, and the reply is filled.
-#[unsafe(no_mangle)]
-pub extern "C" fn tirlwheel_card_frame(
+pub fn tirlwheel_card_frame(
     image: &mut [u8],
     card: &mut [u8; 4],
     session: &mut [u8; 12],
@@ -72,12 +71,7 @@ pub extern "C" fn tirlwheel_card_frame(
 }
 
 // The field reset, for any bytes. The card's record is left as it is.
-#[unsafe(no_mangle)]
-pub extern "C" fn tirlwheel_card_reset(
-    _card: &[u8; 4],
-    session: &mut [u8; 12],
-    reply: &mut [u8; 16],
-) -> u32
+pub fn tirlwheel_card_reset(_card: &[u8; 4], session: &mut [u8; 12], reply: &mut [u8; 16]) -> u32
     ensures value { result ≡ packed_with reset_of.number reset_of.sign 0 }
     ensures session_after { session.new ≡ record_of reset_of.session }
     ensures reply_after { reply.new ≡ reset_of.reply }

@@ -25,8 +25,7 @@ fn give(a: SealedAnswer, session: &mut [u8; 12], reply: &mut [u8; 18]) -> u32
 }
 
 // One frame with its checksum. The session's record is replaced by the next one, and the reply is filled. A field reset has neither frame nor checksum: it is `edge`'s.
-#[unsafe(no_mangle)]
-pub extern "C" fn tirlwheel_sealed_frame(
+pub fn tirlwheel_sealed_frame(
     image: &mut [u8],
     session: &mut [u8; 12],
     frame: &[u8],

@@ -31,12 +31,7 @@ fn sector_named(number: u32) -> Sector
 }
 
 // The directory of an image, from its info bytes and its numbers.
-#[unsafe(no_mangle)]
-pub extern "C" fn tirlwheel_write_directory(
-    image: &mut [u8],
-    infos: &[u8; 2],
-    numbers: &[u8],
-) -> u32
+pub fn tirlwheel_write_directory(image: &mut [u8], infos: &[u8; 2], numbers: &[u8]) -> u32
     ensures value { result ≡ write_number (length image.old) (length numbers.now) }
     ensures image_after { image.new ≡ written_image image.old infos.now numbers.now }
 {
@@ -45,12 +40,7 @@ pub extern "C" fn tirlwheel_write_directory(
 }
 
 // The directory of an image, read in full.
-#[unsafe(no_mangle)]
-pub extern "C" fn tirlwheel_read_directory(
-    image: &[u8],
-    infos: &mut [u8; 2],
-    numbers: &mut [u8; 76],
-) -> u32
+pub fn tirlwheel_read_directory(image: &[u8], infos: &mut [u8; 2], numbers: &mut [u8; 76]) -> u32
     ensures value { result ≡ packed_listing (read_of image.now) }
     ensures infos_after { infos.new ≡ (read_of image.now).infos }
     ensures numbers_after { numbers.new ≡ read_list image.now }
@@ -64,8 +54,7 @@ pub extern "C" fn tirlwheel_read_directory(
 }
 
 // A sector's access bytes, from the bits of its four groups.
-#[unsafe(no_mangle)]
-pub extern "C" fn tirlwheel_write_access(image: &mut [u8], sector: u32, bits: &[u8; 4]) -> u32
+pub fn tirlwheel_write_access(image: &mut [u8], sector: u32, bits: &[u8; 4]) -> u32
     ensures value { result ≡ access_number (length image.old) (sector_named sector) bits.now }
     ensures image_after { image.new ≡ access_image image.old (sector_named sector) bits.now }
 {
@@ -74,8 +63,7 @@ pub extern "C" fn tirlwheel_write_access(image: &mut [u8], sector: u32, bits: &[
 }
 
 // The bits of a sector's four groups.
-#[unsafe(no_mangle)]
-pub extern "C" fn tirlwheel_read_access(image: &[u8], sector: u32, bits: &mut [u8; 4]) -> u32
+pub fn tirlwheel_read_access(image: &[u8], sector: u32, bits: &mut [u8; 4]) -> u32
     ensures value { result ≡ (read_access image.now (sector_named sector)).number }
     ensures bits_after { bits.new ≡ (read_access image.now (sector_named sector)).bits }
 {

@@ -42,8 +42,7 @@ fn sector(found: Found) -> u8
 }
 
 // Which sector of an image is an application's.
-#[unsafe(no_mangle)]
-pub extern "C" fn tirlwheel_lookup(image: &[u8], application: u32) -> u32
+pub fn tirlwheel_lookup(image: &[u8], application: u32) -> u32
     ensures { result ≡ packed_lookup (lookup_of image.now application) }
 {
     let a = directory::lookup(image, application);
@@ -54,8 +53,7 @@ pub extern "C" fn tirlwheel_lookup(image: &[u8], application: u32) -> u32
 }
 
 // Torn value blocks of an image, mended in the order of their names.
-#[unsafe(no_mangle)]
-pub extern "C" fn tirlwheel_mend(image: &mut [u8], names: &[u8], report: &mut [u8; 768]) -> u32
+pub fn tirlwheel_mend(image: &mut [u8], names: &[u8], report: &mut [u8; 768]) -> u32
     ensures value { result ≡ call_number (length image.old) (length names.now) }
     ensures image_after { image.new ≡ mended_image image.old names.now }
     ensures report_after { report.new ≡ report_of image.old names.now }

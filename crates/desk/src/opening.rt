@@ -40,8 +40,7 @@ fn opened(image: &[u8], found: Found) -> Opened
 }
 
 // The figures of an image, to be kept beside it from now on.
-#[unsafe(no_mangle)]
-pub extern "C" fn tirlwheel_open(image: &[u8], card: &[u8; 4], figures: &mut [u8; 16]) -> u32
+pub fn tirlwheel_open(image: &[u8], card: &[u8; 4], figures: &mut [u8; 16]) -> u32
     ensures value { result ≡ (opened_with image.now (found_in card.now)).number }
     ensures figures_after { figures.new ≡ figures_bytes (opened_with image.now (found_in card.now)).figures }
 {

@@ -28,8 +28,7 @@ fn give(a: Answer, session: &mut [u8; 12], reply: &mut [u8; 16]) -> u32
 }
 
 // One frame. The session's record is replaced by the next one, and the reply is filled.
-#[unsafe(no_mangle)]
-pub extern "C" fn tirlwheel_frame(
+pub fn tirlwheel_frame(
     image: &mut [u8],
     session: &mut [u8; 12],
     frame: &[u8],
@@ -48,8 +47,7 @@ pub extern "C" fn tirlwheel_frame(
 }
 
 // The field reset, for any twelve bytes.
-#[unsafe(no_mangle)]
-pub extern "C" fn tirlwheel_field_reset(session: &mut [u8; 12], reply: &mut [u8; 16]) -> u32
+pub fn tirlwheel_field_reset(session: &mut [u8; 12], reply: &mut [u8; 16]) -> u32
     ensures value { result ≡ packed_of reset_of.number reset_of.sign }
     ensures session_after { session.new ≡ record_of reset_of.session }
     ensures reply_after { reply.new ≡ reset_of.reply }
@@ -58,8 +56,7 @@ pub extern "C" fn tirlwheel_field_reset(session: &mut [u8; 12], reply: &mut [u8;
 }
 
 // Which boundary this is.
-#[unsafe(no_mangle)]
-pub extern "C" fn tirlwheel_version() -> u32
+pub fn tirlwheel_version() -> u32
     ensures { result ≡ version_of }
 {
     VERSION

@@ -50,8 +50,7 @@ fn answer(
 }
 
 // One frame with its checksum. The two records are replaced by the next ones, and the reply is filled.
-#[unsafe(no_mangle)]
-pub extern "C" fn tirlwheel_kept_sealed_frame(
+pub fn tirlwheel_kept_sealed_frame(
     image: &mut [u8],
     card: &mut [u8; 4],
     figures: &mut [u8; 16],

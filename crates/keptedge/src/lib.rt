@@ -51,8 +51,7 @@ fn answer(
 }
 
 // One frame. The two records and the figures are replaced by the next ones, and the reply is filled.
-#[unsafe(no_mangle)]
-pub extern "C" fn tirlwheel_kept_frame(
+pub fn tirlwheel_kept_frame(
     image: &mut [u8],
     card: &mut [u8; 4],
     figures: &mut [u8; 16],
@@ -85,8 +84,7 @@ pub extern "C" fn tirlwheel_kept_frame(
 }
 
 // The field reset, for any bytes. The card's record and the figures are left as they are.
-#[unsafe(no_mangle)]
-pub extern "C" fn tirlwheel_kept_reset(
+pub fn tirlwheel_kept_reset(
     _card: &[u8; 4],
     _figures: &[u8; 16],
     session: &mut [u8; 12],
