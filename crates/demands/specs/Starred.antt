@@ -19,7 +19,7 @@ use Rattle.card.specs.Effects.{number_of}
 -- what an example asks
 pub data Question : Type 0 where
   -- the sector of a block
-  sector_of_lem : ℕ → Question
+  sector_of_block : ℕ → Question
   -- whether a block is a trailer
   trailer? : ℕ → Question
   -- the access group of an offset in a large sector
@@ -63,7 +63,7 @@ sum_answer Outside = refused (number_of (load_of Outside 0))
 
 -- the answer of the definitions; block 128 is the first of a large sector
 unfoldable pub answer : Question → Owed
-answer (sector_of_lem b) = number (sector_of (block_at b)).0
+answer (sector_of_block b) = number (sector_of (block_at b)).0
 answer (trailer? b) = yes_no (is_trailer (block_at b))
 answer (large_group o) = number (group_number (group_of (block_at (128 + o))))
 answer (access x y z g) = access_answer (bits_of (record { 0 = x; 1 = y; 2 = z }) g)
@@ -84,9 +84,9 @@ q ⇒ a = record { asks = q; owes = a }
 unfoldable pub starred : List Line
 starred =
     -- 1: the sectors of blocks 127, 128 and 255
-    (sector_of_lem 127 ⇒ number 31)
-    ∷ (sector_of_lem 128 ⇒ number 32)
-    ∷ (sector_of_lem 255 ⇒ number 39)
+    (sector_of_block 127 ⇒ number 31)
+    ∷ (sector_of_block 128 ⇒ number 32)
+    ∷ (sector_of_block 255 ⇒ number 39)
     -- 2: blocks 3, 143 and 255 are trailers; 131 is not
     ∷ (trailer? 3 ⇒ yes_no true)
     ∷ (trailer? 143 ⇒ yes_no true)
