@@ -1,4 +1,4 @@
-/* Tirlwheel: a MIFARE Classic card in software, of the old edition and of EV1. Link with what `rt staticlib NAME` builds (x86-64 Linux):
+/* Tirlwheel: a MIFARE Classic card in software, of the old edition and of EV1. Link with what `./libraries` builds (x86-64 Linux):
  *
  *   libcardedge.a  tirlwheel_card_frame and tirlwheel_card_reset: a card of either edition, with its record
  *   libcardchip.a  tirlwheel_card_sealed_frame: the same for frames that have their checksum
