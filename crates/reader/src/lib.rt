@@ -49,7 +49,7 @@ fn found_at(script: &[u8], at: usize) -> Found
 }
 
 fn step_at(script: &[u8], at: usize) -> Step
-    ensures { result ≡ step_at script.now at }
+    ensures value { result ≡ step_at script.now at }
 {
     let found = found_at(script, at);
     let next = script::next_at(script, at);

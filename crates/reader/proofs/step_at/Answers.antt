@@ -2,4 +2,4 @@
 use Rattle.reader.proofs.step_at.Goals as goal
 
 pub returns : goal.returns
-returns c = rw (c.next_at-next.ensures, c.found_at-found.ensures)
+returns c = record { value = rw (c.next_at-next.ensures, c.found_at-found.ensures) }
