@@ -9,7 +9,6 @@ use Rattle.record.specs.Record.{session_from}
 use Rattle.edition.specs.Bytes.{record_bytes, found_in}
 use Rattle.edition.specs.declared.Found.{Found}
 use Rattle.edition.specs.declared.Found.TheVariants.{Card, Nothing}
-use Rattle.edition.specs.declared.CardRecord.{CardRecord}
 use Rattle.either_card.specs.Either.{sealed_card_answer_of, sealed_card_image_after}
 use Rattle.either_card.specs.declared.sealing.SealedCardAnswer.{SealedCardAnswer}
 

@@ -8,7 +8,6 @@ use Rattle.record.specs.Record.{session_from}
 use Rattle.edition.specs.Bytes.{record_bytes, found_in}
 use Rattle.edition.specs.declared.Found.{Found}
 use Rattle.edition.specs.declared.Found.TheVariants.{Card, Nothing}
-use Rattle.edition.specs.declared.CardRecord.{CardRecord}
 use Rattle.either_card.specs.Either.{card_answer_of, card_image_after}
 use Rattle.either_card.specs.declared.CardAnswer.{CardAnswer}
 

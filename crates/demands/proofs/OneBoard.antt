@@ -1,5 +1,5 @@
 -- One result for each call of `board`: the answer, the session behind the reference and the image, afterwards.
---     frame-says, reset-says, card-frame-says, card-reset-says    the contract that the source states is the fact below it, so a contract that is loosened breaks them
+--     frame_says, reset_says, card_frame_says, card_reset_says    the contract that the source states is the fact below it, so a contract that is loosened breaks them
 -- Assumes nothing.
 use mathlib.Core.Path.{◌≡◌, refl, sym, ◌∙◌}
 use Prim.Native.Nat.{ℕ}

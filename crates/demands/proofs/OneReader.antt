@@ -1,5 +1,5 @@
 -- One result for each public function of `reader`: of a call that is lent a walk, the step and the walk afterwards.
---     opened-says and the like    the contract that the source states is the fact above it, so a contract that is loosened breaks them
+--     opened_says and the like    the contract that the source states is the fact above it, so a contract that is loosened breaks them
 -- Assumes nothing.
 use mathlib.Core.Path.{◌≡◌, refl, sym, ap, ◌∙◌}
 use mathlib.Core.List.{List}

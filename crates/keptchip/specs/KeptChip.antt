@@ -9,7 +9,6 @@ use Rattle.record.specs.Record.{session_from}
 use Rattle.edition.specs.Bytes.{record_bytes, found_in}
 use Rattle.edition.specs.declared.Found.{Found}
 use Rattle.edition.specs.declared.Found.TheVariants.{Card, Nothing}
-use Rattle.edition.specs.declared.CardRecord.{CardRecord}
 use Rattle.tally.specs.Bytes.{figures_in, figures_bytes}
 use Rattle.kept.specs.Kept.{sealed_kept_answer_of, sealed_kept_image_after}
 use Rattle.kept.specs.declared.sealing.SealedKeptAnswer.{SealedKeptAnswer}

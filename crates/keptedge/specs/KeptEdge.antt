@@ -8,7 +8,6 @@ use Rattle.record.specs.Record.{session_from}
 use Rattle.edition.specs.Bytes.{record_bytes, found_in}
 use Rattle.edition.specs.declared.Found.{Found}
 use Rattle.edition.specs.declared.Found.TheVariants.{Card, Nothing}
-use Rattle.edition.specs.declared.CardRecord.{CardRecord}
 use Rattle.tally.specs.Bytes.{figures_in, figures_bytes}
 use Rattle.kept.specs.Kept.{kept_answer_of, kept_image_after}
 use Rattle.kept.specs.declared.KeptAnswer.{KeptAnswer}

@@ -5,7 +5,7 @@ use mathlib.Core.Bool.{Bool, true, false, cond}
 use mathlib.Core.List.{List}
 use Prim.Native.Nat.{ℕ, ◌≤◌}
 use lib.Dec.{eqb}
-use lib.ListN.{length, get_or, get_or-eq_default}
+use lib.ListN.{length, get_or-eq_default}
 use borrow.Author.Tests.{eqb-true}
 use Rattle.edition.specs.Bytes.{choice_by}
 use Rattle.edition.specs.declared.Choice.TheVariants.{Open}

@@ -1,7 +1,6 @@
 -- The loop's invariant: the first i bytes are copied. The measure is what is left.
 use mathlib.Core.Path.{refl, sym, ◌∙◌}
-use Prim.Native.Nat.{◌-◌}
-use lib.ListN.{length, length-set}
+use lib.ListN.{length-set}
 use lib.Seq.{take_all}
 use Rattle.memory.proofs.Copy.{copy_step}
 use borrow.Author.Rules.{rules}

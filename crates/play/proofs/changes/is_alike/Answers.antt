@@ -1,9 +1,9 @@
 -- The loop's invariant: what is left of both is as much alike as the whole.
 use mathlib.Core.Path.{refl, ◌∙◌, sym}
-use Prim.Native.Nat.{◌≤◌, ◌<◌, ◌-◌}
+use Prim.Native.Nat.{◌≤◌, ◌<◌}
 use native.Mathlib.Omega.{arith}
 use native.Mathlib.Numerals.{add-one}
-use lib.ListN.{drop, length, get_or, drop_of_length-le}
+use lib.ListN.{length, get_or, drop_of_length-le}
 use lib.Seq.{drop-cons}
 use borrow.Author.Tests.{ne_eqb, eq-eqb}
 use borrow.Author.Rules.{rules}

@@ -1,5 +1,4 @@
 -- The loop's invariant is `Changing`; the measure is the blocks left.
-use Prim.Native.Nat.{◌-◌}
 use Rattle.play.proofs.Changing.{start, line_room, turn, end_lines}
 use Rattle.play.proofs.changes.put_changes.Goals as goal
 

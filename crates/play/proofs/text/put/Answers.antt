@@ -1,8 +1,7 @@
 -- The loop's invariant: the first i bytes of the text are put. The measure is what is left of it.
 use mathlib.Core.Path.{◌≡◌, refl, sym, ◌∙◌}
-use Prim.Native.Nat.{◌-◌}
 use native.Mathlib.Omega.{arith}
-use lib.ListN.{length, take, length-set}
+use lib.ListN.{take, length-set}
 use lib.Seq.{take_all}
 use Rattle.play.proofs.Put.{put_nothing, put_more}
 use borrow.Author.Rules.{rules}

@@ -1,6 +1,5 @@
 -- The loop's invariant: the digits of the first i bytes are put. The measure is what is left of sixteen.
 use mathlib.Core.Path.{◌≡◌, refl, sym, ◌∙◌}
-use Prim.Native.Nat.{◌-◌}
 use native.Mathlib.Omega.{arith}
 use lib.ListN.{take}
 use lib.Seq.{take_all}
