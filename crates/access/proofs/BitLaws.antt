@@ -1,5 +1,6 @@
 -- Access bytes there and back, and when a sector is blocked.
 -- Assumes nothing.
+use Rattle.std.proofs.Common.{None, Option, Some}
 use mathlib.Core.Path.{◌≡◌, refl, ap, sym, ◌∙◌}
 use mathlib.Core.Bool.{Bool, true, false, ◌&&◌}
 use Prim.Native.Nat.{ℕ, ◌+◌, ◌*◌, ◌/◌, ◌%◌, ◌<◌}
@@ -9,8 +10,6 @@ use borrow.Author.Tests.{eqb-true, eq-eqb}
 use Rattle.layout.specs.declared.Group.{Group}
 use Rattle.layout.specs.declared.Group.TheVariants.{First, Second, Third, Trailer}
 use Rattle.access.specs.declared.bits.AccessBytes.{AccessBytes}
-use Rattle.access.specs.declared.bits.Bits.{Bits}
-use Rattle.access.specs.declared.bits.Bits.TheVariants.{Blocked, Are}
 use Rattle.access.specs.Bits.{C1, C2, C3, inverted_c1, inverted_c2, inverted_c3, agree, well_formed, bit_of, group_bits, bits_of, nibble_of, encode_bits}
 
 -- every nibble makes fifteen with its inverse
@@ -34,35 +33,35 @@ agrees x e =
     (eqb-true _ 15 t.0, eqb-true _ 15 t.1, eqb-true _ 15 t.2)
 
 -- a sector is blocked exactly when some nibble and its inverse disagree
-pub not_blocked : (x : AccessBytes) (g : Group) → Agree x → bits_of x g ≡ Are (group_bits x g)
+pub not_blocked : (x : AccessBytes) (g : Group) → Agree x → bits_of x g ≡ Some (group_bits x g)
 unfolding bits_of
 not_blocked x g h = rw (well_formed_lem x h)
 
-pub blocked : (x : AccessBytes) (g : Group) → (Agree x → ⊥) → bits_of x g ≡ Blocked
+pub blocked : (x : AccessBytes) (g : Group) → (Agree x → ⊥) → bits_of x g ≡ None
 unfolding bits_of
 blocked x g h = go (well_formed x) refl
   where
-    go : (t : Bool) → well_formed x ≡ t → bits_of x g ≡ Blocked
+    go : (t : Bool) → well_formed x ≡ t → bits_of x g ≡ None
     go true e = absurd (h (agrees x e))
     go false e = rw e
 
 -- what an answer of the leaf says, in the words of the code that asked
-module _ (x : AccessBytes) (g : Group) (r : Bits) (asked : r ≡ bits_of x g) where
-  pub closed : r ≡ Blocked → well_formed x ≡ false
+module _ (x : AccessBytes) (g : Group) (r : Option ℕ) (asked : r ≡ bits_of x g) where
+  pub closed : r ≡ None → well_formed x ≡ false
   unfolding bits_of
   closed e = go (well_formed x) refl
     where
       go : (t : Bool) → well_formed x ≡ t → well_formed x ≡ false
       go false q = q
-      go true q = let p : Blocked ≡ Are (group_bits x g) = sym e ∙ rw q at asked in cc
+      go true q = let p : None ≡ Some (group_bits x g) = sym e ∙ rw q at asked in cc
 
-  pub opened : (n : ℕ) → r ≡ Are n → (well_formed x ≡ true) × (n ≡ group_bits x g)
+  pub opened : (n : ℕ) → r ≡ Some n → (well_formed x ≡ true) × (n ≡ group_bits x g)
   unfolding bits_of
   opened n e = go (well_formed x) refl
     where
       go : (t : Bool) → well_formed x ≡ t → (well_formed x ≡ true) × (n ≡ group_bits x g)
-      go true q = let p : Are n ≡ Are (group_bits x g) = sym e ∙ rw q at asked in (q, cc)
-      go false q = let p : Are n ≡ Blocked = sym e ∙ rw q at asked in (cc, cc)
+      go true q = let p : Some n ≡ Some (group_bits x g) = sym e ∙ rw q at asked in (q, cc)
+      go false q = let p : Some n ≡ None = sym e ∙ rw q at asked in (cc, cc)
 
 -- of four things, the one of a group
 abbrev pub one_of : Group → ℕ → ℕ → ℕ → ℕ → ℕ
@@ -130,9 +129,9 @@ module _ (a b c d : ℕ) where
   encoded_agrees = let s = small in omega arith
 
   -- the access bytes of four groups' bits split back into those groups
-  pub split_back : (g : Group) → a < 8 → b < 8 → c < 8 → d < 8 → bits_of (encode_bits a b c d) g ≡ Are (one_of g a b c d)
+  pub split_back : (g : Group) → a < 8 → b < 8 → c < 8 → d < 8 → bits_of (encode_bits a b c d) g ≡ Some (one_of g a b c d)
   unfolding group_bits
   split_back g p q r s =
       not_blocked (encode_bits a b c d) g encoded_agrees
       ∙ rw (nibbles.0, nibbles.1, nibbles.2, nibble_bit high high_bit a b c d g, nibble_bit middle middle_bit a b c d g, nibble_bit low low_bit a b c d g)
-      (ap Are (three_bits (one_of g a b c d) (one_small g a b c d p q r s)))
+      (ap Some (three_bits (one_of g a b c d) (one_small g a b c d p q r s)))

@@ -1,10 +1,8 @@
 -- Access bits: which bits C1 C2 C3 a group has, and when a sector is blocked.
-use Rattle.std.specs.Prelude.{ℕ, ◌+◌, ◌*◌, ◌-◌, ◌/◌, ◌%◌, ◌^◌, Bool, ◌&&◌, cond, List, eqb, get_or}
+use Rattle.std.specs.Prelude.{ℕ, ◌+◌, ◌*◌, ◌-◌, ◌/◌, ◌%◌, ◌^◌, Bool, ◌&&◌, cond, List, eqb, get_or, None, Option, Some}
 use Rattle.layout.specs.Layout.{group_number}
 use Rattle.layout.specs.declared.Group.{Group}
 use Rattle.access.specs.declared.bits.AccessBytes.{AccessBytes}
-use Rattle.access.specs.declared.bits.Bits.{Bits}
-use Rattle.access.specs.declared.bits.Bits.TheVariants.{Blocked, Are}
 
 -- where a trailer keeps its access bytes
 unfoldable pub access_bytes_of : List ℕ → AccessBytes
@@ -46,8 +44,8 @@ unfoldable pub group_bits : AccessBytes → Group → ℕ
 group_bits x g = 4 * bit_of (C1 x) g + 2 * bit_of (C2 x) g + bit_of (C3 x) g
 
 -- blocked, or the bits
-unfoldable pub bits_of : AccessBytes → Group → Bits
-bits_of x g = cond (well_formed x) (Are (group_bits x g)) Blocked
+unfoldable pub bits_of : AccessBytes → Group → Option ℕ
+bits_of x g = cond (well_formed x) (Some (group_bits x g)) None
 
 -- a nibble from one bit of each of four groups
 unfoldable pub nibble_of : (ℕ → ℕ) → ℕ → ℕ → ℕ → ℕ → ℕ

@@ -8,13 +8,6 @@ use layout::Group;
 #[derive(Clone, Copy)]
 pub struct AccessBytes(pub u8, pub u8, pub u8);
 
-// What the access bytes say of a group: the sector is blocked, or the group's C1 C2 C3 as a binary number.
-#[derive(Clone, Copy)]
-pub enum Bits {
-    Blocked,
-    Are(u8),
-}
-
 pub fn access_bytes_of(trailer: [u8; 16]) -> AccessBytes
     ensures { result ≡ access_bytes_of trailer }
 {
@@ -41,22 +34,20 @@ fn bits_at(c1: u8, c2: u8, c3: u8, place: u8) -> u8
     4 * (c1 / place % 2) + 2 * (c2 / place % 2) + c3 / place % 2
 }
 
-// Blocked, or the bits of one group. The nibbles are tested first; then only that group's bits are picked out.
-pub fn bits_of(x: AccessBytes, g: Group) -> Bits
+// A group's C1 C2 C3 as a binary number; none where the sector is blocked. The nibbles are tested first; then only that group's bits are picked out.
+pub fn bits_of(x: AccessBytes, g: Group) -> Option<u8>
     ensures { result ≡ bits_of x g }
 {
-    if is_well_formed(x) {
-        let seven = x.1;
-        let eight = x.2;
-        let c1 = seven / 16;
-        let c2 = eight % 16;
-        let c3 = eight / 16;
-        return match g {
-            Group::First => Bits::Are(bits_at(c1, c2, c3, 1)),
-            Group::Second => Bits::Are(bits_at(c1, c2, c3, 2)),
-            Group::Third => Bits::Are(bits_at(c1, c2, c3, 4)),
-            Group::Trailer => Bits::Are(bits_at(c1, c2, c3, 8)),
-        };
+    if !is_well_formed(x) {
+        return None;
     }
-    Bits::Blocked
+    let c1 = x.1 / 16;
+    let c2 = x.2 % 16;
+    let c3 = x.2 / 16;
+    Some(match g {
+        Group::First => bits_at(c1, c2, c3, 1),
+        Group::Second => bits_at(c1, c2, c3, 2),
+        Group::Third => bits_at(c1, c2, c3, 4),
+        Group::Trailer => bits_at(c1, c2, c3, 8),
+    })
 }

@@ -4,7 +4,7 @@
 mod bits;
 mod rights;
 
-pub use bits::{AccessBytes, Bits, access_bytes_of, bits_of};
+pub use bits::{AccessBytes, access_bytes_of, bits_of};
 pub use rights::{
     DataRow, Keys, Letter, Operation, Parts, Readable, TrailerRow, allows, data_row, is_mute,
     is_readable, may, trailer_row, writable,

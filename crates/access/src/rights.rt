@@ -73,19 +73,17 @@ const TRAILER: [TrailerRow; 8] = [
     TrailerRow(Keys::Never, Keys::Never, Keys::Never, Readable::No),
 ];
 
-// The row of the last three bits of a number.
+// The row of the last three bits of a number. A generic function for both tables would be no shorter than either line.
 pub fn data_row(bits: u8) -> DataRow
     ensures { result ≡ data_row bits }
 {
-    let k = (bits % 8) as usize;
-    DATA[k]
+    DATA[(bits % 8) as usize]
 }
 
 pub fn trailer_row(bits: u8) -> TrailerRow
     ensures { result ≡ trailer_row bits }
 {
-    let k = (bits % 8) as usize;
-    TRAILER[k]
+    TRAILER[(bits % 8) as usize]
 }
 
 pub fn allows(k: Keys, l: Letter) -> bool
@@ -146,10 +144,7 @@ pub fn writable(l: Letter, bits: u8) -> Parts
 fn is_yes(x: Readable) -> bool
     ensures { result ≡ is_yes x }
 {
-    match x {
-        Readable::No => false,
-        Readable::Yes => true,
-    }
+    matches!(x, Readable::Yes)
 }
 
 // Can key B be read from a trailer with these bits?

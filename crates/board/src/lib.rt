@@ -30,13 +30,6 @@ pub fn field_reset(session: &mut Session) -> Answer
     a
 }
 
-fn session_of(a: CardAnswer) -> Session
-    ensures { result ≡ a.answer.session }
-{
-    let answer = a.answer;
-    answer.session
-}
-
 // One frame on a card with its record, which comes back in the answer. The session is afterwards the one that the answer carries.
 pub fn card_frame(
     image: &mut [u8],
@@ -49,7 +42,7 @@ pub fn card_frame(
         × (image.new ≡ card_image_after image.old card session.old frame.now) }
 {
     let a = either_card::step(image, card, *session, frame);
-    *session = session_of(a);
+    *session = a.answer.session;
     a
 }
 
@@ -58,6 +51,6 @@ pub fn card_reset(card: CardRecord, session: &mut Session) -> CardAnswer
     ensures { (result ≡ card_reset_of card) × (session.new ≡ (card_reset_of card).answer.session) }
 {
     let a = either_card::field_reset(card);
-    *session = session_of(a);
+    *session = a.answer.session;
     a
 }

@@ -1,54 +1,33 @@
--- Lists of sixteen bytes, joined and blanked byte by byte.
+-- A trailer as it is shown, byte by byte.
 -- Assumes nothing.
-use mathlib.Core.Path.{◌≡◌, refl}
+use mathlib.Core.Path.{◌≡◌, refl, ap₂}
 use mathlib.Core.Bool.{Bool, true, false, cond}
 use mathlib.Core.List.{List, [], ◌∷◌}
-use Prim.Native.Nat.{ℕ, zero, suc, ◌+◌, ◌-◌, ◌≤◌}
+use Prim.Native.Nat.{ℕ, zero, suc, ◌<◌}
 use native.Mathlib.Omega.{arith}
-use lib.ListN.{length, set, get_or}
-use Rattle.value.proofs.Words.{listed}
+use lib.ListN.{length, get_or}
+use Rattle.value.proofs.Words.{elements, listed}
 use Rattle.access.specs.Rights.{readable_of}
 use Rattle.card.specs.Trailer.{join_of, shown_trailer}
-use Rattle.card.specs.Code.{patched_of, sight_of, seen_of}
-
--- no byte set, and one byte more
-pub patch_none : (x y : List ℕ) (from : ℕ) → x ≡ patched_of x y from (from - from)
-unfolding patched_of
-patch_none x y from = let n : from - from ≡ 0 = omega arith in rw n
-
-pub patch_step : (x y bytes : List ℕ) (from i : ℕ) → from ≤ i → bytes ≡ patched_of x y from (i - from) → set bytes i (get_or y i 0) ≡ patched_of x y from (i + 1 - from)
-unfolding patched_of
-patch_step x y bytes from i h e =
-    let n : i + 1 - from ≡ suc (i - from) = omega arith in
-    let m : from + (i - from) ≡ i = omega arith in
-    rw (n, m, e)
-
-pub join_patches : (p q r : List ℕ) → length p ≡ 16 → length q ≡ 16 → length r ≡ 16 → patched_of (patched_of r p 0 6) q 6 4 ≡ join_of p q r
-unfolding join_of patched_of
-join_patches p q r lp lq lr = rw (listed 16 p lp, listed 16 q lq, listed 16 r lr)
+use Rattle.card.specs.Code.{sight_of, seen_of}
 
 -- how well each byte of a trailer is hidden
 abbrev pub hiding : List ℕ
 hiding = 3 ∷ 3 ∷ 3 ∷ 3 ∷ 3 ∷ 3 ∷ 1 ∷ 1 ∷ 1 ∷ 1 ∷ 2 ∷ 2 ∷ 2 ∷ 2 ∷ 2 ∷ 2 ∷ []
 
--- a trailer with its first n bytes as a sight shows them
-unfoldable pub blanked_of : ℕ → List ℕ → ℕ → List ℕ
-blanked_of sight t zero = t
-blanked_of sight t (suc n) = set (blanked_of sight t n) n (seen_of (get_or hiding n 0) sight (get_or t n 0))
+-- a list by its elements
+pub from_elements : (n : ℕ) (xs : List ℕ) (f : ℕ → ℕ) → length xs ≡ n → ((i : ℕ) → i < n → get_or xs i 0 ≡ f i) → xs ≡ elements n f
+from_elements zero [] f e h = refl
+from_elements zero (x ∷ xs) f e h = absurd (omega arith)
+from_elements (suc n) [] f e h = absurd (omega arith)
+from_elements (suc n) (x ∷ xs) f e h =
+    ap₂ ◌∷◌ (h 0 (omega arith)) (from_elements n xs (λ (i : ℕ). f (suc i)) (omega arith) (λ i k. h (suc i) (omega arith)))
 
-pub blank_none : (sight : ℕ) (t : List ℕ) → t ≡ blanked_of sight t 0
-unfolding blanked_of
-blank_none sight t = refl
-
-pub blank_step : (sight : ℕ) (t bytes : List ℕ) (i : ℕ) → bytes ≡ blanked_of sight t i → set bytes i (seen_of (get_or hiding i 0) sight (get_or t i 0)) ≡ blanked_of sight t (i + 1)
-unfolding blanked_of
-blank_step sight t bytes i e = let n : i + 1 ≡ suc i = omega arith in rw (n, e)
-
--- all sixteen, by what the bits say of key B
-pub blank_all : (m : ℕ) (t : List ℕ) → length t ≡ 16 → blanked_of (sight_of m) t 16 ≡ shown_trailer (readable_of m) t
-unfolding sight_of blanked_of seen_of shown_trailer join_of
-blank_all m t l = go (readable_of m)
+-- each byte as the bits say of key B
+pub shown_each : (m : ℕ) (t : List ℕ) → length t ≡ 16 → shown_trailer (readable_of m) t ≡ elements 16 (λ (i : ℕ). seen_of (get_or hiding i 0) (sight_of m) (get_or t i 0))
+unfolding sight_of seen_of shown_trailer join_of
+shown_each m t l = go (readable_of m)
   where
-    go : (readable : Bool) → blanked_of (cond readable 3 2) t 16 ≡ shown_trailer readable t
+    go : (readable : Bool) → shown_trailer readable t ≡ elements 16 (λ (i : ℕ). seen_of (get_or hiding i 0) (cond readable 3 2) (get_or t i 0))
     go true = rw (listed 16 t l)
     go false = rw (listed 16 t l)

@@ -1,11 +1,6 @@
 -- What only contracts inside this crate cite. What the card means does not rest on it.
-use Rattle.std.specs.Prelude.{cond, List, ℕ, zero, suc, ◌+◌, ltb, set, get_or}
+use Rattle.std.specs.Prelude.{cond, ℕ, ltb}
 use Rattle.access.specs.Rights.{readable_of}
-
--- the bytes x, with n of y's from a place on
-unfoldable pub patched_of : List ℕ → List ℕ → ℕ → ℕ → List ℕ
-patched_of x y from zero = x
-patched_of x y from (suc n) = set (patched_of x y from n) (from + n) (get_or y (from + n) 0)
 
 -- how far a Read of a trailer with the bits m sees: past 2, the hiding of key B, where that key can be read
 unfoldable pub sight_of : ℕ → ℕ

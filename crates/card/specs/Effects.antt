@@ -1,14 +1,12 @@
 -- What an act gives back, and what it leaves behind. Refusals are cases like any other.
-use Rattle.std.specs.Prelude.{cond, ◌||◌, List, ℕ, ◌+◌, ◌*◌, eqb}
+use Rattle.std.specs.Prelude.{cond, ◌||◌, List, ℕ, ◌+◌, ◌*◌, eqb, None, Some}
 use Rattle.memory.specs.Memory.{sixteen_of, content_of, store_of}
 use Rattle.access.specs.Rights.{readable_of}
 use Rattle.value.specs.Whole.{signed}
 use Rattle.value.specs.Block.{encode_of}
 use Rattle.session.specs.Session.{fresh_of}
-use Rattle.session.specs.declared.Auth.{Auth}
-use Rattle.session.specs.declared.Auth.TheVariants.{As}
+use Rattle.session.specs.Session.{Auth}
 use Rattle.session.specs.declared.Stage.TheVariants as stage
-use Rattle.session.specs.declared.Register.TheVariants.{Empty, Full}
 use Rattle.session.specs.declared.Session.{Session}
 use Rattle.judge.specs.declared.Act.{Act}
 use Rattle.judge.specs.declared.Act.TheVariants.{Refused, Authenticated, Shown, TrailerShown, WriteWaits, ValueWaits, Stored, TrailerStored, Loaded, Moved, Halted}
@@ -76,14 +74,14 @@ reply_of image Halted = zeros
 -- the session afterwards
 unfoldable pub session_of : Session → Act → Session
 session_of s (Refused n) = fresh_of
-session_of s (Authenticated t l) = record { auth = As t l; stage = stage.Idle; register = Empty }
+session_of s (Authenticated t l) = record { auth = Some (t, l); stage = stage.Idle; register = None }
 session_of s (Shown b) = s
 session_of s (TrailerShown b m) = s
 session_of s (WriteWaits b) = record { auth = s.auth; stage = stage.WriteWaits b; register = s.register }
 session_of s (ValueWaits b k) = record { auth = s.auth; stage = stage.ValueWaits k b; register = s.register }
 session_of s (Stored b) = record { auth = s.auth; stage = stage.Idle; register = s.register }
 session_of s (TrailerStored b m) = record { auth = s.auth; stage = stage.Idle; register = s.register }
-session_of s (Loaded v a) = record { auth = s.auth; stage = stage.Idle; register = Full v a }
+session_of s (Loaded v a) = record { auth = s.auth; stage = stage.Idle; register = Some (v, a) }
 session_of s (Moved b v a) = s
 session_of s Halted = fresh_of
 

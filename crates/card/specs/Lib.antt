@@ -1,4 +1,5 @@
 pub mod Trailer
 pub mod Effects
+pub mod Answers
 pub mod Step
 pub mod Code

@@ -8,7 +8,7 @@ use Rattle.judge.specs.declared.Act.{Act}
 use Rattle.card.specs.Trailer.{zeros}
 use Rattle.card.specs.Effects.{number_of, refused_sign, sign_of, reply_of, session_of, image_of}
 use Rattle.card.specs.declared.Sign.TheVariants.{Nothing}
-use Rattle.card.specs.declared.Answer.{Answer}
+use Rattle.card.specs.Answers.{Answer}
 
 -- the answer to an act
 unfoldable pub answered : List ℕ → Session → Act → Answer

@@ -20,7 +20,7 @@ pub enum Sign {
     Nothing,
 }
 
-// A sign as a number, for those who keep answers as bytes.
+// A sign as a number, for those who keep answers as bytes. The numbers are those of the C interface, so each stands beside its sign.
 pub fn sign_code(sign: Sign) -> u8
     ensures value { result ≡ sign_code sign }
     ensures upper_bound { result < 4 }
@@ -33,25 +33,19 @@ pub fn sign_code(sign: Sign) -> u8
     }
 }
 
-fn wide(b: u8) -> u32
-    ensures { (result ≡ b) × (result < 256) }
-{
-    b as u32
-}
-
 // A number and a sign in one, for those who hand over a single number.
 pub fn packed(number: u8, sign: Sign) -> u32
     ensures { result ≡ packed_of number sign }
 {
-    wide(number) + 256 * wide(sign_code(sign))
+    u32::from(number) + 256 * u32::from(sign_code(sign))
 }
 
-// The number (0 is accepted), the sign, the sixteen reply bytes and the session afterwards.
+// The number (0 is accepted; the promises, demand 1 and the C interface are by it), the sign, the reply and the session afterwards. A bare frame's reply has sixteen bytes, that of a frame with its checksum eighteen.
 #[derive(Clone, Copy)]
-pub struct Answer {
+pub struct Answer<R = [u8; 16]> {
     pub number: u8,
     pub sign: Sign,
-    pub reply: [u8; 16],
+    pub reply: R,
     pub session: Session,
 }
 

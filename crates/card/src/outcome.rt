@@ -1,8 +1,6 @@
 // What an act does: its answer, and what it does to the image.
 ghost use Rattle.std.specs.Prelude.{◌≡◌};
-ghost use Rattle.session.specs.declared.Auth.TheVariants.{As};
 ghost use Rattle.session.specs.declared.Stage.TheVariants.{Idle};
-ghost use Rattle.session.specs.declared.Register.TheVariants.{Empty, Full};
 ghost use Rattle.card.specs.Trailer.{zeros};
 ghost use Rattle.card.specs.Effects.{refused_sign, image_of};
 ghost use Rattle.card.specs.Step.{answered, refusal_of};
@@ -12,7 +10,7 @@ use crate::{Answer, Sign, trailer};
 use access::Letter;
 use judge::Act;
 use layout::Sector;
-use session::{Auth, Register, Session, Stage};
+use session::{Session, Stage};
 
 fn refused_sign(n: u8) -> Sign
     ensures { result ≡ refused_sign n }
@@ -23,7 +21,7 @@ fn refused_sign(n: u8) -> Sign
     Sign::Nak
 }
 
-// The answer of a refusal.
+// The answer of a refusal, by any number: a narrower type would ask more of callers.
 pub fn refusal(n: u8) -> Answer
     ensures { result ≡ refusal_of n }
 {
@@ -61,35 +59,28 @@ fn silent(session: Session) -> Answer
 }
 
 fn logged_in(t: Sector, l: Letter) -> Session
-    ensures { result ≡ record { auth = As t l; stage = Idle; register = Empty } }
+    ensures { result ≡ record { auth = Some (t, l); stage = Idle; register = None } }
 {
     Session {
-        auth: Auth::As(t, l),
+        auth: Some((t, l)),
         stage: Stage::Idle,
-        register: Register::Empty,
+        register: None,
     }
 }
 
 fn awaiting(s: Session, w: Stage) -> Session
     ensures { result ≡ record { auth = s.auth; stage = w; register = s.register } }
 {
-    let auth = s.auth;
-    let register = s.register;
-    Session {
-        auth,
-        stage: w,
-        register,
-    }
+    Session { stage: w, ..s }
 }
 
 fn loaded(s: Session, v: u32, a: u8) -> Session
-    ensures { result ≡ record { auth = s.auth; stage = Idle; register = Full v a } }
+    ensures { result ≡ record { auth = s.auth; stage = Idle; register = Some (v, a) } }
 {
-    let auth = s.auth;
     Session {
-        auth,
         stage: Stage::Idle,
-        register: Register::Full(v, a),
+        register: Some((v, a)),
+        ..s
     }
 }
 
@@ -98,7 +89,6 @@ pub fn enact(image: &mut [u8], s: Session, act: Act, frame: &[u8]) -> Answer
     ensures value { result ≡ answered image.old s act }
     ensures image_after { image.new ≡ image_of image.old s.auth act frame.now }
 {
-    let auth = s.auth;
     match act {
         Act::Refused(n) => refusal(n),
         Act::Authenticated(t, l) => ack(logged_in(t, l)),
@@ -118,7 +108,7 @@ pub fn enact(image: &mut [u8], s: Session, act: Act, frame: &[u8]) -> Answer
             memory::store(
                 image,
                 b,
-                trailer::written(auth, m, old, memory::sixteen(frame)),
+                trailer::written(s.auth, m, old, memory::sixteen(frame)),
             );
             ack(awaiting(s, Stage::Idle))
         }

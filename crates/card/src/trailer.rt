@@ -1,32 +1,23 @@
 // A trailer in its parts: as it is read and as it is written.
-ghost use Rattle.std.specs.Prelude.{◌≡◌, cond, ◌-◌, ◌≤◌};
+ghost use Rattle.std.specs.Prelude.{◌≡◌, cond};
 ghost use Rattle.access.specs.Rights.{readable_of};
 ghost use Rattle.judge.specs.Checks.{writable_by};
 ghost use Rattle.card.specs.Trailer.{join_of, shown_trailer, mixed_of};
-ghost use Rattle.card.specs.Code.{patched_of, sight_of, seen_of};
+ghost use Rattle.card.specs.Code.{sight_of, seen_of};
 
-use access::Parts;
-use session::Auth;
-
-// The bytes x, but from one place up to another those of y.
-fn patched(x: [u8; 16], y: [u8; 16], from: usize, to: usize) -> [u8; 16]
-    requires { (from ≤ to) × (to ≤ 16) }
-    ensures { result ≡ patched_of x y from (to - from) }
-{
-    let mut bytes = x;
-    let mut i = from;
-    while i < to {
-        bytes[i] = y[i];
-        i += 1;
-    }
-    bytes
-}
+use access::{Letter, Parts};
+use layout::Sector;
+use std::array;
 
 // Key A of one, bytes 6 to 9 of another, key B of a third.
+#[tactic(auto, unfolding(crate::specs::Trailer::join_of))]
 fn join(p: [u8; 16], q: [u8; 16], r: [u8; 16]) -> [u8; 16]
     ensures { result ≡ join_of p q r }
 {
-    patched(patched(r, p, 0, 6), q, 6, 10)
+    let mut joined = r;
+    joined[..6].copy_from_slice(&p[..6]);
+    joined[6..10].copy_from_slice(&q[6..10]);
+    joined
 }
 
 // How well each byte is hidden: bytes 6 to 9 least, key B better, key A best.
@@ -38,8 +29,7 @@ const SIGHT: [u8; 8] = [3, 3, 3, 2, 2, 2, 2, 2];
 fn sight_of(m: u8) -> u8
     ensures { result ≡ sight_of m }
 {
-    let k = (m % 8) as usize;
-    SIGHT[k]
+    SIGHT[(m % 8) as usize]
 }
 
 fn seen(hiding: u8, sight: u8, byte: u8) -> u8
@@ -54,25 +44,19 @@ pub(crate) fn shown(trailer: [u8; 16], m: u8) -> [u8; 16]
     ensures { result ≡ shown_trailer (readable_of m) trailer }
 {
     let sight = sight_of(m);
-    let mut bytes = trailer;
-    let mut i = 0;
-    while i < 16 {
-        bytes[i] = seen(HIDING[i], sight, trailer[i]);
-        i += 1;
-    }
-    bytes
+    array::from_fn(|i| seen(HIDING[i], sight, trailer[i]))
 }
 
-fn writable_by(auth: Auth, m: u8) -> Parts
+fn writable_by(auth: Option<(Sector, Letter)>, m: u8) -> Parts
     ensures { result ≡ writable_by auth m }
 {
     match auth {
-        Auth::Nobody => Parts {
+        None => Parts {
             a: false,
             bits: false,
             b: false,
         },
-        Auth::As(_, l) => access::writable(l, m),
+        Some((_, l)) => access::writable(l, m),
     }
 }
 
@@ -93,7 +77,12 @@ fn mixed(p: Parts, old: [u8; 16], new: [u8; 16]) -> [u8; 16]
 }
 
 // A trailer with the bits m, as a session writes it.
-pub(crate) fn written(auth: Auth, m: u8, old: [u8; 16], new: [u8; 16]) -> [u8; 16]
+pub(crate) fn written(
+    auth: Option<(Sector, Letter)>,
+    m: u8,
+    old: [u8; 16],
+    new: [u8; 16],
+) -> [u8; 16]
     ensures { result ≡ mixed_of (writable_by auth m) old new }
 {
     mixed(writable_by(auth, m), old, new)

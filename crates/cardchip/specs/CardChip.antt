@@ -1,42 +1,25 @@
 -- The same for frames with their checksum: the record is four lent bytes, the session twelve, the reply eighteen.
-use Rattle.std.specs.Prelude.{List, ℕ, ◌+◌, ◌*◌}
-use Rattle.card.specs.Effects.{packed_of}
+use Rattle.std.specs.Prelude.{List, ℕ, None, Option, Some}
 use Rattle.card.specs.Step.{refusal_of}
 use Rattle.sealed.specs.Sealed.{sealed_of}
-use Rattle.sealed.specs.declared.SealedAnswer.{SealedAnswer}
-use Rattle.card.specs.declared.Sign.{Sign}
 use Rattle.record.specs.Record.{session_from}
-use Rattle.edition.specs.Bytes.{record_bytes, found_in}
-use Rattle.edition.specs.declared.Found.{Found}
-use Rattle.edition.specs.declared.Found.TheVariants.{Card, Nothing}
+use Rattle.edition.specs.Bytes.{found_in}
 use Rattle.either_card.specs.Either.{sealed_card_answer_of, sealed_card_image_after}
-use Rattle.either_card.specs.declared.sealing.SealedCardAnswer.{SealedCardAnswer}
-
--- number, sign and the NAK's value in one: the number in the low byte, then the sign's, then the value
-abbrev pub packed_with : ℕ → Sign → ℕ → ℕ
-packed_with number sign nak = packed_of number sign + 65536 * nak
-
--- an answer whose record is four bytes
-pub record Crossed : Type 0 where
-  pub answer : SealedAnswer
-  pub nak : ℕ
-  pub card : List ℕ
-
-abbrev pub crossed : SealedCardAnswer → Crossed
-crossed a = record { answer = a.answer; nak = a.nak; card = record_bytes a.card }
+use Rattle.either_card.specs.Crossed.{Crossed, crossed}
+use Rattle.edition.specs.declared.CardRecord.{CardRecord}
 
 -- four bytes that are no record stand for no card: 11, and they come back as they were
 abbrev pub no_card_of : List ℕ → Crossed
 no_card_of card = record { answer = sealed_of (refusal_of 11); nak = 0; card = card }
 
 -- the answer to a frame and the image after it, by what the four bytes hold
-abbrev pub answer_on : List ℕ → Found → List ℕ → List ℕ → List ℕ → Crossed
-answer_on card (Card k) image session frame = crossed (sealed_card_answer_of image k (session_from session) frame)
-answer_on card Nothing image session frame = no_card_of card
+abbrev pub answer_on : List ℕ → Option CardRecord → List ℕ → List ℕ → List ℕ → Crossed
+answer_on card (Some k) image session frame = crossed (sealed_card_answer_of image k (session_from session) frame)
+answer_on card None image session frame = no_card_of card
 
-abbrev pub image_on : Found → List ℕ → List ℕ → List ℕ → List ℕ
-image_on (Card k) image session frame = sealed_card_image_after image k (session_from session) frame
-image_on Nothing image session frame = image
+abbrev pub image_on : Option CardRecord → List ℕ → List ℕ → List ℕ → List ℕ
+image_on (Some k) image session frame = sealed_card_image_after image k (session_from session) frame
+image_on None image session frame = image
 
 unfoldable pub card_sealed_of : List ℕ → List ℕ → List ℕ → List ℕ → Crossed
 card_sealed_of image card session frame = answer_on card (found_in card) image session frame

@@ -3,7 +3,8 @@
 
 ghost use Rattle.std.specs.Prelude.{◌≡◌};
 ghost use Rattle.record.specs.Record.{record_of};
-ghost use Rattle.cardchip.specs.CardChip.{packed_with, card_sealed_of, card_sealed_image};
+ghost use Rattle.crossing.specs.Crossing.{packed_with};
+ghost use Rattle.cardchip.specs.CardChip.{card_sealed_of, card_sealed_image};
 
 // One frame with its checksum. The two records are replaced by the next ones, and the reply is filled.
 #[unsafe(no_mangle)]

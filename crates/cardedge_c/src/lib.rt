@@ -3,7 +3,8 @@
 
 ghost use Rattle.std.specs.Prelude.{◌≡◌};
 ghost use Rattle.record.specs.Record.{record_of};
-ghost use Rattle.cardedge.specs.CardEdge.{packed_with, card_frame_of, card_frame_image};
+ghost use Rattle.crossing.specs.Crossing.{packed_with};
+ghost use Rattle.cardedge.specs.CardEdge.{card_frame_of, card_frame_image};
 ghost use Rattle.card.specs.Step.{reset_of};
 
 // One frame. The two records are replaced by the next ones, and the reply is filled.

@@ -8,6 +8,7 @@ use lib.ListN.{get_or}
 use lib.Bits.{bit_xor, xor_lt, xor_self, xor_zero_r}
 use Rattle.checksum.specs.Checksum.{shifted, shifts, byte_on, bytes_on, crc_of, two_of}
 use Rattle.xor.proofs.Xor.{xor_assoc}
+use Rattle.std.proofs.lemmas.List.Sums.{fold-append}
 use Rattle.checksum.proofs.Linear.{parts, down}
 
 -- 00 00 has A0 1E, and 12 34 has 26 CF
@@ -40,12 +41,6 @@ pub crc_fits : (bytes : List ℕ) → ((i : ℕ) → get_or bytes i 0 < 256) →
 unfolding crc_of
 crc_fits bytes small = bytes_fit 0x6363 bytes (omega arith) small
 
--- bytes after bytes
-bytes_then : (c : ℕ) (xs ys : List ℕ) → bytes_on c (xs ++ ys) ≡ bytes_on (bytes_on c xs) ys
-unfolding bytes_on
-bytes_then c [] ys = refl
-bytes_then c (x ∷ xs) ys = bytes_then (byte_on c x) xs ys
-
 -- a register's own low byte leaves its high part, and that byte leaves nothing
 low_byte : (c : ℕ) → byte_on c (c % 256) ≡ c / 256
 unfolding byte_on
@@ -68,6 +63,6 @@ residue bytes small =
     let c = crc_of bytes in
     let fits : c < 65536 = crc_fits bytes small in
     let high : c / 256 % 256 ≡ c / 256 = omega arith in
-    bytes_then 0x6363 bytes (two_of c)
+    fold-append byte_on 0x6363 bytes (two_of c)
     ∙ ap₂ byte_on (low_byte c) high
     ∙ own_byte (c / 256)

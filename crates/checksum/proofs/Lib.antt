@@ -1,3 +1,2 @@
 pub mod Linear
-pub mod Turn
 pub mod Laws

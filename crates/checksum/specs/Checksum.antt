@@ -1,5 +1,5 @@
 -- CRC_A of ISO/IEC 14443-3, bit by bit, the low bit first.
-use Rattle.std.specs.Prelude.{List, [], ◌∷◌, ℕ, zero, suc, ◌*◌, ◌/◌, ◌%◌}
+use Rattle.std.specs.Prelude.{List, [], ◌∷◌, ℕ, zero, suc, ◌*◌, ◌/◌, ◌%◌, fold}
 use Rattle.std.specs.Int.Bits.{bit_xor}
 
 -- a shift step: one bit down, and where a one fell out the polynomial put in
@@ -17,8 +17,7 @@ byte_on c b = shifts 8 (bit_xor c b)
 
 -- one byte after the other
 unfoldable pub bytes_on : ℕ → List ℕ → ℕ
-bytes_on c [] = c
-bytes_on c (b ∷ bs) = bytes_on (byte_on c b) bs
+bytes_on c bytes = fold byte_on c bytes
 
 -- the checksum of some bytes: what the register then holds, from 6363h on
 unfoldable pub crc_of : List ℕ → ℕ

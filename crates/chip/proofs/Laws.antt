@@ -1,5 +1,6 @@
 -- What a sealed frame gets for the record of a session, and for twelve bytes that are none.
 -- Assumes nothing.
+use Rattle.std.proofs.Common.{None, Some}
 use mathlib.Core.Path.{◌≡◌, refl, sym, ap}
 use mathlib.Core.Bool.{Bool, true, false, cond}
 use mathlib.Core.List.{List}
@@ -16,10 +17,9 @@ use Rattle.card.specs.Effects.{number_of, sign_of, refused_sign, reply_of, sessi
 use Rattle.card.specs.Step.{answered, refusal_of, no_session_of}
 use Rattle.card.specs.declared.Sign.TheVariants.{Nothing}
 use Rattle.record.specs.Record.{value_bits, record_of, is_record, found_in, stray_of, session_from}
-use Rattle.record.specs.declared.Found.TheVariants as found
 use Rattle.record.proofs.Laws.{reads_back, no_record}
 use Rattle.sealed.specs.Sealed.{inner_of, sealed_act_of, sealed_reply, sealed_of, sealed_answer_of, sealed_image_after, sealed_no_session_of}
-use Rattle.sealed.specs.declared.SealedAnswer.{SealedAnswer}
+use Rattle.card.specs.Answers.{Answer}
 use Rattle.chip.specs.Chip.{chip_answer, chip_image}
 
 -- a session loses nothing as a record
@@ -33,7 +33,7 @@ abbrev pub stray_number : List ℕ → ℕ
 stray_number image = cond (no_card image) 11 12
 
 -- nothing on the air, zeros, the fresh session
-abbrev pub silent_refusal : ℕ → SealedAnswer
+abbrev pub silent_refusal : ℕ → Answer
 silent_refusal n = record { number = n; sign = Nothing; reply = replicate 18 0; session = fresh_of }
 
 -- no frame gets past 11 and 12 with the session that stands for such bytes, so 14 is never looked at
@@ -67,12 +67,12 @@ bad_record image bytes frame e = rw (no_record bytes e) (stray image frame)
 
 -- what a frame gets, by what was found in the twelve bytes
 module _ (image bytes frame : List ℕ) where
-  pub with_session : (s : Session) → found_in bytes ≡ found.Session s
+  pub with_session : (s : Session) → found_in bytes ≡ Some s
       → (sealed_answer_of image s frame ≡ chip_answer image bytes frame) × (sealed_image_after image s frame ≡ chip_image image bytes frame)
   unfolding session_from
   with_session s e = rw e (refl, refl)
 
-  pub without_session : found_in bytes ≡ found.Nothing
+  pub without_session : found_in bytes ≡ None
       → (sealed_no_session_of (length image) ≡ chip_answer image bytes frame) × (image ≡ chip_image image bytes frame)
   unfolding session_from
   without_session e = let refused = stray image frame in rw e (sym refused.0, sym refused.1)

@@ -6,24 +6,6 @@ ghost use Rattle.card.specs.Effects.{packed_of};
 ghost use Rattle.record.specs.Record.{record_of};
 ghost use Rattle.chip.specs.Chip.{chip_answer, chip_image};
 
-use record::Found;
-use sealed::SealedAnswer;
-
-// An answer handed over: its session as a record, its reply, and its number and sign in one.
-fn give(a: SealedAnswer, session: &mut [u8; 12], reply: &mut [u8; 18]) -> u32
-    ensures value { result ≡ packed_of a.number a.sign }
-    ensures session_after { session.new ≡ record_of a.session }
-    ensures reply_after { reply.new ≡ a.reply }
-{
-    let next = a.session;
-    let bytes = a.reply;
-    let sign = a.sign;
-    let number = a.number;
-    *session = record::encode(next);
-    *reply = bytes;
-    card::packed(number, sign)
-}
-
 // One frame with its checksum. The session's record is replaced by the next one, and the reply is filled. A field reset has neither frame nor checksum: it is `edge`'s.
 pub fn tirlwheel_sealed_frame(
     image: &mut [u8],
@@ -37,8 +19,8 @@ pub fn tirlwheel_sealed_frame(
     ensures image_after { image.new ≡ chip_image image.old session.old frame.now }
 {
     let a = match record::decode(*session) {
-        Found::Session(s) => sealed::step(image, s, frame),
-        Found::Nothing => sealed::no_session(image.len()),
+        Some(s) => sealed::step(image, s, frame),
+        None => sealed::no_session(image.len()),
     };
-    give(a, session, reply)
+    crossing::give(a, 0, session, reply)
 }

@@ -1,5 +1,6 @@
 -- The exported calls: each gives what is owed by the contract that its source states; and called one after the other they are the run.
 -- Assumes nothing.
+use Rattle.std.proofs.Common.{Ok, Some}
 use mathlib.Core.Path.{◌≡◌, refl, sym, ◌∙◌, ap}
 use mathlib.Core.Bool.{true}
 use mathlib.Core.List.{List, [], ◌∷◌, map}
@@ -11,8 +12,6 @@ use denote.Bor.{Bor}
 use denote.Ref.{MutBor}
 use Rattle.memory.specs.Memory.{content_of}
 use Rattle.value.specs.Block.{decode_of, agreeing, bits_in, address_in}
-use Rattle.value.specs.declared.block.Decoded.TheVariants.{Value}
-use Rattle.value.specs.declared.sum.Total.TheVariants.{Fits}
 use Rattle.value.proofs.Blocks.{decode_small}
 use Rattle.value.proofs.Sums.{ruled_back}
 use Rattle.session.specs.Session.{fresh_of}
@@ -51,13 +50,13 @@ zeros_are_fresh = (ap session_from (sym zero) ∙ reads_back fresh_of (omega ari
     zero = refl
 
 -- a result has 32 bits
-result_small : (k : Kind) (w o x : ℕ) → w < 4294967296 → total_for k w o ≡ Fits x → x < 4294967296
+result_small : (k : Kind) (w o x : ℕ) → w < 4294967296 → total_for k w o ≡ Ok x → x < 4294967296
 unfolding total_for
 result_small Increment w o x h e = (ruled_back _ _ x e).2
 result_small Decrement w o x h e = (ruled_back _ _ x e).2
 result_small Restore w o x h e = let q : w ≡ x = cc in rw q at h
 
-reads : (block : List ℕ) → agreeing block ≡ true → decode_of block ≡ Value (bits_in block) (address_in block)
+reads : (block : List ℕ) → agreeing block ≡ true → decode_of block ≡ Some (bits_in block, address_in block)
 unfolding decode_of
 reads block e = rw e
 

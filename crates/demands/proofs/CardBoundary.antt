@@ -1,5 +1,6 @@
 -- The exported calls of a card with its record: each gives what is owed by the contract that its source states; and called one after the other they are the run.
 -- Assumes nothing.
+use Rattle.std.proofs.Common.{None, Option, Some}
 use mathlib.Core.Path.{◌≡◌, refl, sym, ◌∙◌, ap}
 use mathlib.Core.List.{List, [], ◌∷◌}
 use Prim.Native.Nat.{ℕ}
@@ -16,11 +17,10 @@ use Rattle.sealed.specs.Sealed.{sealed_reply, sealed_of}
 use Rattle.record.specs.Record.{record_of}
 use Rattle.record.proofs.Laws.{reads_back}
 use Rattle.edition.specs.Bytes.{record_bytes, found_in}
-use Rattle.edition.specs.declared.Found.{Found}
-use Rattle.edition.specs.declared.Found.TheVariants as found
 use Rattle.edition.specs.declared.CardRecord.{CardRecord}
 use Rattle.edition.proofs.Laws.{found_back, found_writes}
-use Rattle.cardedge.specs.CardEdge.{packed_with, card_frame_of, card_frame_image}
+use Rattle.crossing.specs.Crossing.{packed_with}
+use Rattle.cardedge.specs.CardEdge.{card_frame_of, card_frame_image}
 use Rattle.cardedge.specs.CardEdge as edge
 use Rattle.cardchip.specs.CardChip.{card_sealed_of, card_sealed_image}
 use Rattle.cardchip.specs.CardChip as chip
@@ -66,21 +66,21 @@ module _ (image card session frame : List ℕ) where
   abbrev lent : CardLent
   lent = record { image = image; card = card; bytes = session }
 
-  bare_owed : (f : Found)
+  bare_owed : (f : Option CardRecord)
       → (let a = edge.answer_on card f image session frame in
       gave (packed_with a.answer.number a.answer.sign a.nak) (edge.image_on f image session frame) a.card (record_of a.answer.session) a.answer.reply
       ≡ card_given_for f lent (bare frame))
   unfolding answer_to image_upon refused_sign
-  bare_owed (found.Card k) = refl
-  bare_owed found.Nothing = rw zeros_are_fresh.1
+  bare_owed (Some k) = refl
+  bare_owed None = rw zeros_are_fresh.1
 
-  sealed_owed : (f : Found)
+  sealed_owed : (f : Option CardRecord)
       → (let a = chip.answer_on card f image session frame in
       gave (packed_with a.answer.number a.answer.sign a.nak) (chip.image_on f image session frame) a.card (record_of a.answer.session) a.answer.reply
       ≡ card_given_for f lent (sealed frame))
   unfolding answer_to image_upon refused_sign sealed_of sealed_reply
-  sealed_owed (found.Card k) = refl
-  sealed_owed found.Nothing = rw zeros_are_fresh.1
+  sealed_owed (Some k) = refl
+  sealed_owed None = rw zeros_are_fresh.1
 
 -- each exported call gives what is owed, for any image, any four and twelve bytes and any frame
 module _ (κ₀ κ₁ κ₂ κ₃ κ₄ : Lft) (image card session : MutBor (List ℕ)) (frame : Bor (List ℕ)) (reply : MutBor (List ℕ)) (r : ℕ) (i c s p : List ℕ) where
@@ -100,7 +100,7 @@ pub card_reset_owed : (κ₀ κ₁ κ₂ : Lft) (image : List ℕ) (card : Bor (
 unfolding answer_to image_upon
 card_reset_owed κ₀ κ₁ κ₂ image card session reply r s p four m = rw (m.0, m.1.0, m.1.1) (go (found_in card.now) refl)
   where
-    go : (f : Found) → found_in card.now ≡ f
+    go : (f : Option CardRecord) → found_in card.now ≡ f
         → gave (packed_with 0 Nothing 0) image card.now (record_of fresh_of) (replicate 16 0) ≡ card_given_for f (record { image = image; card = card.now; bytes = session.now }) reset
-    go (found.Card k) e = rw (found_writes card.now k four e)
-    go found.Nothing e = rw zeros_are_fresh.1
+    go (Some k) e = rw (found_writes card.now k four e)
+    go None e = rw zeros_are_fresh.1

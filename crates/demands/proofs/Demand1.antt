@@ -1,5 +1,6 @@
 -- Demand 1: the judgement of what is sent goes by the table, row by row.
 -- Assumes nothing.
+use Rattle.std.proofs.Common.{Err, None, Ok, Option, Some}
 use mathlib.Core.Path.{◌≡◌, refl, ◌∙◌, ap}
 use mathlib.Core.Bool.{Bool, true, false, not, cond, ◌||◌}
 use mathlib.Core.List.{List, [], ◌∷◌}
@@ -15,12 +16,11 @@ use Rattle.access.specs.declared.rights.Operation.TheVariants as column
 use Rattle.value.specs.Block.{bits_in, address_in}
 use Rattle.value.specs.Sum.{total_of, is_negative, ruled_of}
 use Rattle.value.specs.Whole.{signed, bits, in_range}
-use Rattle.value.specs.declared.sum.Total.TheVariants.{Fits, Negative, Outside}
+use Rattle.value.specs.declared.sum.SumError.TheVariants.{Negative, Outside}
 use Rattle.session.specs.Session.{is_empty}
 use Rattle.session.specs.declared.Kind.{Kind}
 use Rattle.session.specs.declared.Kind.TheVariants.{Increment, Decrement, Restore}
-use Rattle.session.specs.declared.Register.{Register}
-use Rattle.session.specs.declared.Register.TheVariants.{Empty, Full}
+use Rattle.session.specs.Session.{Register}
 use Rattle.session.specs.declared.Session.{Session}
 use Rattle.frame.specs.Command.{byte_in, command_of}
 use Rattle.frame.specs.declared.Command.{Command}
@@ -33,15 +33,12 @@ use Rattle.judge.specs.declared.Act.TheVariants.{Refused, Authenticated, Shown, 
 use Rattle.card.specs.Trailer.{zeros}
 use Rattle.card.specs.Effects.{number_of, refused_sign, image_of}
 use Rattle.card.specs.Step.{answered}
-use Rattle.card.specs.declared.Answer.{Answer}
+use Rattle.card.specs.Answers.{Answer}
 use Rattle.card.specs.declared.Sign.TheVariants.{Nothing}
 use Rattle.sealed.specs.Sealed.{inner_of, unsealed, sealed_of}
 use Rattle.sealed.proofs.Laws.{refused_none}
 use Rattle.edition.specs.Edition.{usage_of, wrong_size}
-use Rattle.edition.specs.declared.Asked.{Asked}
-use Rattle.edition.specs.declared.Asked.TheVariants as type
-use Rattle.edition.specs.declared.Choice.{Choice}
-use Rattle.edition.specs.declared.Choice.TheVariants.{Open, Locked}
+use Rattle.edition.specs.Edition.{Choice}
 use Rattle.edition.specs.declared.CardRecord.{CardRecord}
 use Rattle.either_card.specs.Personal.{is_personal, read_zero, choosing, acknowledged}
 use Rattle.either_card.specs.Either.{card_act_of, sealed_card_act_of, given_for, card_answer_of, card_image_after, sealed_card_of, sealed_card_answer_of, sealed_card_image_after}
@@ -49,6 +46,7 @@ use Rattle.either_card.specs.Code.{given_of}
 use Rattle.either_card.proofs.Laws.{read_command, personal_idle, refusal_given}
 use Rattle.runs.specs.Run.{State, Sent, reset, bare, sealed, answer_to, image_upon, act_of}
 use Rattle.demands.specs.Demand1.{Wanted, shared, personalize, Row, row, any_frame, no_usage, is_locked, no_card_for, command_rows, table, wanted_of, asked, Met, here, below, owed_for, Demand1}
+use Rattle.edition.specs.declared.Usage.{Usage}
 
 -- the act that a table of rows leaves of a command
 abbrev pub rule : Wanted → List Row → Act → Act
@@ -92,7 +90,7 @@ met_sign r c rows p (here rest e) = (p.0, p.1)
 met_sign r c rows p (below above rest e m) = met_sign r c rest p.2 m
 
 -- 13 before 10, and what is left is loaded
-lastly : (negative fits : Bool) (v a : ℕ) → load_of (cond negative Negative (cond fits (Fits v) Outside)) a ≡ cond negative (Refused 13) (cond (not fits) (Refused 10) (Loaded v a))
+lastly : (negative fits : Bool) (v a : ℕ) → load_of (cond negative (Err Negative) (cond fits (Ok v) (Err Outside))) a ≡ cond negative (Refused 13) (cond (not fits) (Refused 10) (Loaded v a))
 unfolding load_of
 lastly true fits v a = refl
 lastly false true v a = refl
@@ -124,8 +122,8 @@ module _ (k : CardRecord) (image : List ℕ) (s : Session) (frame : List ℕ) wh
     -- past 9 the register is full
     past_nine : (r : Register) → (act : Act) × (number_of act ≡ 0) × (cond (is_empty r) (Refused 9) (move_of r b) ≡ cond (is_empty r) (Refused 9) act)
     unfolding number_of move_of
-    past_nine Empty = (Halted, refl, refl)
-    past_nine (Full v a) = (Moved b v a, refl, refl)
+    past_nine None = (Halted, refl, refl)
+    past_nine (Some (v, a)) = (Moved b v a, refl, refl)
 
     moved : Follows (Transfer b)
     unfolding commanded_of checks_of memory_checks done_of
@@ -168,7 +166,7 @@ module _ (k : CardRecord) (image : List ℕ) (s : Session) (frame : List ℕ) wh
   follows Halt = halts
 
 -- 40h: what a Read of block 0 is refused with, then 17 and 18
-personal_rows : (x y c2 c3 c5 c6 c7 : Bool) (choice : Choice) (asked : Asked) (act : Act) → number_of act ≡ 0
+personal_rows : (x y c2 c3 c5 c6 c7 : Bool) (choice : Choice) (asked : Option Usage) (act : Act) → number_of act ≡ 0
     → choosing choice asked (number_of (cond x (Refused 11) (cond y (Refused 12) (cond c2 (Refused 2) (cond c3 (Refused 3) (cond c5 (Refused 5) (cond c6 (Refused 6) (cond c7 (Refused 7) act))))))))
     ≡ cond x (Refused 11) (cond y (Refused 12) (cond c2 (Refused 2) (cond c3 (Refused 3) (cond c5 (Refused 5) (cond c6 (Refused 6) (cond c7 (Refused 7)
     (cond (no_usage asked) (Refused 17) (cond (is_locked choice) (Refused 18) (Shown (block_at 0))))))))))
@@ -180,9 +178,9 @@ personal_rows false false false true c5 c6 c7 choice asked act z = refl
 personal_rows false false false false true c6 c7 choice asked act z = refl
 personal_rows false false false false false true c7 choice asked act z = refl
 personal_rows false false false false false false true choice asked act z = refl
-personal_rows false false false false false false false choice type.Unknown act z = rw z
-personal_rows false false false false false false false Open (type.For u) act z = rw z
-personal_rows false false false false false false false (Locked v) (type.For u) act z = rw z
+personal_rows false false false false false false false choice None act z = rw z
+personal_rows false false false false false false false None (Some u) act z = rw z
+personal_rows false false false false false false false (Some v) (Some u) act z = rw z
 
 module _ (k : CardRecord) (image : List ℕ) (s : Session) where
   -- 11 and 12 come first

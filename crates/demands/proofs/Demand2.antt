@@ -1,5 +1,6 @@
 -- Demand 2: value blocks there and back, and a run cut anywhere is two runs.
 -- Assumes nothing.
+use Rattle.std.proofs.Common.{Ok}
 use mathlib.Core.Path.{◌≡◌, refl}
 use mathlib.Core.Bool.{Bool, true, false}
 use mathlib.Core.List.{List, [], ◌∷◌}
@@ -8,7 +9,6 @@ use lib.IntN.{ℤ}
 use borrow.Author.Tests.{ne_eqb}
 use Rattle.value.specs.Whole.{bits}
 use Rattle.value.specs.Sum.{total_of}
-use Rattle.value.specs.declared.sum.Total.TheVariants.{Fits}
 use Rattle.value.proofs.Blocks.{decode_encode_whole, encode_decode}
 use Rattle.session.specs.declared.Session.{Session}
 use Rattle.card.specs.Effects.{image_of}
@@ -27,7 +27,7 @@ use Rattle.demands.specs.Demand2.{ReadsBack, Rewritten, EventByEvent, AsBare, As
 pub reads_back : (value : ℤ) (address : ℕ) → ReadsBack value address
 unfolding total_of
 reads_back value address h =
-    let e : total_of value ≡ Fits (bits value) = rw h in
+    let e : total_of value ≡ Ok (bits value) = rw h in
     let r = decode_encode_whole value (bits value) address e in
     (bits value, r.0, r.1)
 

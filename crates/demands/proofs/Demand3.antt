@@ -1,5 +1,6 @@
 -- Demand 3: the books of a block stay true, act by act.
 -- Assumes nothing.
+use Rattle.std.proofs.Common.{Ok, Some}
 use mathlib.Core.Path.{◌≡◌, refl, sym, ◌∙◌, ap}
 use mathlib.Core.Bool.{Bool, true, false, not, ◌||◌, cond}
 use mathlib.Core.List.{List}
@@ -14,14 +15,11 @@ use Rattle.memory.specs.Memory.{content_of, store_of}
 use Rattle.memory.proofs.Laws.{store_back, store_other}
 use Rattle.value.specs.Whole.{signed}
 use Rattle.value.specs.Block.{encode_of, decode_of, bits_in, address_in}
-use Rattle.value.specs.declared.block.Decoded.TheVariants.{Value}
-use Rattle.value.specs.declared.sum.Total.TheVariants.{Fits}
-use Rattle.value.proofs.Blocks.{decode_encode, decode_small, encode_length, read_value}
+use Rattle.value.proofs.Blocks.{value_and_address, decode_encode, decode_small, encode_length, read_value}
 use Rattle.value.proofs.Sums.{ruled_back}
 use Rattle.session.specs.declared.Kind.{Kind}
 use Rattle.session.specs.declared.Kind.TheVariants.{Increment, Decrement, Restore}
-use Rattle.session.specs.declared.Register.{Register}
-use Rattle.session.specs.declared.Register.TheVariants.{Full}
+use Rattle.session.specs.Session.{Register}
 use Rattle.judge.specs.Checks.{writable_by}
 use Rattle.judge.specs.Judge.{total_for}
 use Rattle.judge.specs.declared.Act.{Act}
@@ -35,14 +33,11 @@ use Rattle.laws.proofs.Keeps.{both_true, keeps, beside, beside_noted, both, besi
 use Rattle.demands.specs.Demand3.{deed_of, is_write, is_transfer, own_load, Books, opened, change_of, settled, booked, Demand3}
 
 -- a block that holds a value and an address byte
-holds : (block : List ℕ) (v a : ℕ) → decode_of block ≡ Value v a → (bits_in block ≡ v) × (address_in block ≡ a)
+holds : (block : List ℕ) (v a : ℕ) → decode_of block ≡ Some (v, a) → (bits_in block ≡ v) × (address_in block ≡ a)
 holds block v a e = let r = read_value block (decode_of block) refl v a e in (sym r.1, sym r.2)
 
-full_value : (x y a c : ℕ) → Full x a ≡ Full y c → (x ≡ y) × (a ≡ c)
-full_value x y a c e = (cc, cc)
-
 -- what a value operation makes of a value, in whole numbers
-result : (k : Kind) (w x : ℕ) (frame : List ℕ) → w < 4294967296 → total_for k w (bits_in frame) ≡ Fits x → (signed x ≡ signed w +ℤ change_of k frame) × (x < 4294967296)
+result : (k : Kind) (w x : ℕ) (frame : List ℕ) → w < 4294967296 → total_for k w (bits_in frame) ≡ Ok x → (signed x ≡ signed w +ℤ change_of k frame) × (x < 4294967296)
 unfolding total_for
 result Increment w x frame h e = let b = ruled_back _ _ x e in (b.1, b.2)
 result Decrement w x frame h e = let b = ruled_back _ _ x e in (b.1, b.2)
@@ -52,13 +47,13 @@ module _ (b : Block) (v a : ℕ) where
   -- what a register that holds a load of the block has in it, for a block with the value w
   abbrev Holds : Bool → Bool → ℤ → Register → ℕ → Type 0
   Holds false counted change r w = Unit {0}
-  Holds true true change r w = r ≡ Full w a
-  Holds true false change r w = (x : ℕ) × (r ≡ Full x a) × (signed x ≡ signed w +ℤ change) × (x < 4294967296)
+  Holds true true change r w = r ≡ Some (w, a)
+  Holds true false change r w = (x : ℕ) × (r ≡ Some (x, a)) × (signed x ≡ signed w +ℤ change) × (x < 4294967296)
 
   -- the books are true
   record True (own : Bool) (k : Books) (image : List ℕ) (r : Register) : Type 0 where
     value : ℕ
-    here : decode_of (content_of image b) ≡ Value value a
+    here : decode_of (content_of image b) ≡ Some (value, a)
     sum : signed value ≡ signed v +ℤ k.sum
     held : Holds own k.counted k.change r value
 
@@ -75,10 +70,10 @@ module _ (b : Block) (v a : ℕ) where
 
     -- a load from the block, or from another
     loads : (x d : ℕ) → Load st.image st.session frame x d
-        → True (own_load b own st frame (Loaded x d)) (booked b k st frame (Loaded x d)) st.image (Full x d)
+        → True (own_load b own st frame (Loaded x d)) (booked b k st frame (Loaded x d)) st.image (Some (x, d))
     loads x d l = rw l.awaited (go (eqb l.source.0 b.0) refl)
       where
-        go : (u : Bool) → eqb l.source.0 b.0 ≡ u → True u (record { change = change_of l.kind frame; counted = false; sum = k.sum }) st.image (Full x d)
+        go : (u : Bool) → eqb l.source.0 b.0 ≡ u → True u (record { change = change_of l.kind frame; counted = false; sum = k.sum }) st.image (Some (x, d))
         go false e = record { value = t.value; here = t.here; sum = t.sum; held = tt }
         go true e =
             let q : l.source ≡ b = ap block_at (eqb-true l.source.0 b.0 e) in
@@ -86,18 +81,18 @@ module _ (b : Block) (v a : ℕ) where
             let w : bits_in (content_of st.image l.source) ≡ t.value = ap (λ (c : Block). bits_in (content_of st.image c)) q ∙ h.0 in
             let ad : d ≡ a = l.address ∙ ap (λ (c : Block). address_in (content_of st.image c)) q ∙ h.1 in
             let z = result l.kind t.value x frame (decode_small (content_of st.image b) t.value a t.here) (rw w at l.result) in
-            record { value = t.value; here = t.here; sum = t.sum; held = (x, ap (Full x) ad, z.0, z.1) }
+            record { value = t.value; here = t.here; sum = t.sum; held = (x, ap (λ (n : ℕ). Some (x, n)) ad, z.0, z.1) }
 
     -- a Transfer into another block, or of a load into this one
-    moves : (c : Block) (x d : ℕ) → has_block (length st.image) c ≡ true → st.session.register ≡ Full x d → (u : Bool) → eqb c.0 b.0 ≡ u → (not u || own) ≡ true
+    moves : (c : Block) (x d : ℕ) → has_block (length st.image) c ≡ true → st.session.register ≡ Some (x, d) → (u : Bool) → eqb c.0 b.0 ≡ u → (not u || own) ≡ true
         → True own (cond u (settled k) k) (store_of st.image c (encode_of (signed x) d)) st.session.register
     moves c x d has full false e f = stays c (encode_of (signed x) d) (encode_length (signed x) d) e
     moves c x d has full true e f = brought k.counted refl
       where
         -- the block afterwards, once its value and address byte are known
-        block_after_lem : (y : ℕ) → Full x d ≡ Full y a → y < 4294967296 → decode_of (content_of (store_of st.image c (encode_of (signed x) d)) b) ≡ Value y a
+        block_after_lem : (y : ℕ) → ◌≡◌ {A = Register} (Some (x, d)) (Some (y, a)) → y < 4294967296 → decode_of (content_of (store_of st.image c (encode_of (signed x) d)) b) ≡ Some (y, a)
         block_after_lem y q h =
-            let p = full_value x y d a q in
+            let p = value_and_address q in
             let put : content_of (store_of st.image c (encode_of (signed x) d)) c ≡ encode_of (signed x) d = store_back st.image c (encode_of (signed x) d) (encode_length (signed x) d) has in
             let there : content_of (store_of st.image c (encode_of (signed x) d)) b ≡ encode_of (signed y) a =
             ap (λ (j : Block). content_of (store_of st.image c (encode_of (signed x) d)) j) (ap block_at (sym (eqb-true c.0 b.0 e))) ∙ put ∙ rw (p.0, p.1) in
@@ -106,7 +101,7 @@ module _ (b : Block) (v a : ℕ) where
         brought : (n : Bool) → k.counted ≡ n
             → True own (record { change = k.change; counted = true; sum = cond k.counted k.sum (k.sum +ℤ k.change) }) (store_of st.image c (encode_of (signed x) d)) st.session.register
         brought true n =
-            let r : st.session.register ≡ Full t.value a = rw (f, n) at t.held in
+            let r : st.session.register ≡ Some (t.value, a) = rw (f, n) at t.held in
             let h = decode_small (content_of st.image b) t.value a t.here in
             rw (f, n) (record { value = t.value; here = block_after_lem t.value (sym full ∙ r) h; sum = t.sum; held = r })
         brought false n =

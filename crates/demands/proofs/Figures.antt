@@ -23,14 +23,12 @@ use Rattle.sealed.specs.Sealed.{inner_of, unsealed}
 use Rattle.edition.specs.Edition.{wrong_size}
 use Rattle.edition.specs.declared.CardRecord.{CardRecord}
 use Rattle.either_card.specs.Either.{card_act_of, sealed_card_act_of}
-use Rattle.either_card.specs.declared.CardAnswer.{CardAnswer}
+use Rattle.either_card.specs.Answers.{CardAnswer}
 use Rattle.either_card.proofs.Sealed.{inner_card_act}
 use Rattle.tally.specs.Change.{in_range}
-use Rattle.tally.specs.Full.{counts, opened_of}
-use Rattle.tally.specs.declared.full.Opened.{Opened}
+use Rattle.tally.specs.Full.{counts, full_figures}
 use Rattle.tally.specs.declared.change.Figures.{Figures}
-use Rattle.tally.specs.declared.change.Settled.{Settled}
-use Rattle.tally.specs.declared.change.Settled.TheVariants.{Kept}
+use Rattle.std.specs.Prelude.{Option, Some}
 use Rattle.tally.proofs.Laws.{opening_fits, opening_counts, not_counted, change_counts, opening_stays}
 use Rattle.kept.specs.Kept.{settled_at, settled_by, lastly, kept_answer_of, kept_image_after, sealed_kept_answer_of, sealed_kept_image_after}
 use Rattle.kept.proofs.Laws.{in_range_lem, kept_card}
@@ -47,18 +45,18 @@ use Rattle.demands.proofs.OneWay.{one_way, none_ever}
 
 module _ (image : List ℕ) where
   -- sixteen bytes stored into any block, on figures of an opening
-  stored_on : (b : Block) (bytes : List ℕ) → length bytes ≡ 16 → settled_at image (opened_of image).figures b bytes ≡ Kept (opened_of (store_of image b bytes)).figures
+  stored_on : (b : Block) (bytes : List ℕ) → length bytes ≡ 16 → settled_at image (full_figures image) b bytes ≡ Some (full_figures (store_of image b bytes))
   unfolding settled_at
   stored_on b bytes l = go (counts (length image) b) refl
     where
-      go : (t : Bool) → counts (length image) b ≡ t → settled_at image (opened_of image).figures b bytes ≡ Kept (opened_of (store_of image b bytes)).figures
+      go : (t : Bool) → counts (length image) b ≡ t → settled_at image (full_figures image) b bytes ≡ Some (full_figures (store_of image b bytes))
       go true c = rw c (change_counts image b bytes l c)
-      go false c = rw c (ap (λ (o : Opened). Kept o.figures) (sym (opening_stays image b bytes l c)))
+      go false c = rw c (ap Some (sym (opening_stays image b bytes l c).1))
 
   -- a trailer does not count
-  trailer_on : (b : Block) (bytes : List ℕ) → length bytes ≡ 16 → is_trailer b ≡ true → ◌≡◌ {A = Settled} (Kept (opened_of image).figures) (Kept (opened_of (store_of image b bytes)).figures)
+  trailer_on : (b : Block) (bytes : List ℕ) → length bytes ≡ 16 → is_trailer b ≡ true → ◌≡◌ {A = Option Figures} (Some (full_figures image)) (Some (full_figures (store_of image b bytes)))
   trailer_on b bytes l t =
-      ap (λ (o : Opened). Kept o.figures) (sym (opening_stays image b bytes l (not_counted (length image) b (ap (λ (x : Bool). eqb b.0 0 || x) t ∙ out (eqb b.0 0)))))
+      ap Some (sym (opening_stays image b bytes l (not_counted (length image) b (ap (λ (x : Bool). eqb b.0 0 || x) t ∙ out (eqb b.0 0)))).1)
     where
       out : (x : Bool) → (x || true) ≡ true
       out true = refl
@@ -66,7 +64,7 @@ module _ (image : List ℕ) where
 
   -- so every accepted act leaves the figures of an opening afterwards
   counts_on : (s : Session) (frame : List ℕ) (act : Act) → Accepted image s frame act
-      → settled_by image (opened_of image).figures act frame ≡ Kept (opened_of (image_of image s.auth act frame)).figures
+      → settled_by image (full_figures image) act frame ≡ Some (full_figures (image_of image s.auth act frame))
   unfolding settled_by image_of
   counts_on s frame (Refused n) h = refl
   counts_on s frame (Authenticated t l) h = refl
@@ -108,15 +106,15 @@ in_range_act st (sealed frame) fits =
 
 -- the figures are those of an opening
 abbrev pub Counted : KeptState → Type 0
-Counted st = st.figures ≡ (opened_of st.state.image).figures
+Counted st = st.figures ≡ full_figures st.state.image
 
 -- then an event does what it does without figures, and they are so again
 pub still_counted : (st : KeptState) (e : Sent) → Counted st → (kept_act_in st e ≡ act_of st.state e) × Counted (kept_after st e)
 still_counted st e c =
     let fits : in_range st.figures ≡ true = ap in_range c ∙ opening_fits st.state.image in
-    let kept : settled_in st e ≡ Kept (opened_of (image_of st.state.image st.state.session.auth (act_of st.state e) (frame_in e))).figures =
+    let kept : settled_in st e ≡ Some (full_figures (image_of st.state.image st.state.session.auth (act_of st.state e) (frame_in e))) =
     ap (λ (f : Figures). settled_by st.state.image f (act_of st.state e) (frame_in e)) c ∙ counts_on st.state.image st.state.session (frame_in e) (act_of st.state e) (behind st.state e) in
-    let act : kept_act_in st e ≡ act_of st.state e = in_range_act st e fits ∙ ap (λ (x : Settled). lastly x (act_of st.state e)) kept in
+    let act : kept_act_in st e ≡ act_of st.state e = in_range_act st e fits ∙ ap (λ (x : Option Figures). lastly x (act_of st.state e)) kept in
     (act, rw (kept_after_acts st e, act, kept))
 
 pub counted_run : (st : KeptState) (events : List Sent) → Counted st → Counted (kept_run_of st events)

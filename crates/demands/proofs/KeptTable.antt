@@ -1,5 +1,6 @@
 -- Demand 1 with figures: the judgement of what is sent goes by the table with 29 in its two places.
 -- Assumes nothing.
+use Rattle.std.proofs.Common.{Err, None, Ok, Option, Result, Some}
 use mathlib.Core.Path.{◌≡◌, refl, sym, ◌∙◌, ap}
 use mathlib.Core.Bool.{Bool, true, false, not, cond, ◌||◌, false≢true}
 use mathlib.Core.List.{List, [], ◌∷◌, ◌++◌}
@@ -14,10 +15,9 @@ use Rattle.layout.specs.declared.Block.{Block}
 use Rattle.memory.specs.Memory.{sixteen_of, content_of}
 use Rattle.value.specs.Whole.{signed}
 use Rattle.value.specs.Block.{encode_of}
-use Rattle.value.specs.declared.sum.Total.{Total}
-use Rattle.value.specs.declared.sum.Total.TheVariants as total
-use Rattle.session.specs.declared.Register.{Register}
-use Rattle.session.specs.declared.Register.TheVariants.{Empty, Full}
+use Rattle.value.specs.declared.sum.SumError.{SumError}
+use Rattle.value.specs.declared.sum.SumError.TheVariants as total
+use Rattle.session.specs.Session.{Register}
 use Rattle.session.specs.declared.Session.{Session}
 use Rattle.frame.specs.Command.{byte_in, command_of}
 use Rattle.frame.specs.declared.Command.{Command}
@@ -34,22 +34,18 @@ use Rattle.card.specs.declared.Sign.TheVariants.{Nothing}
 use Rattle.sealed.specs.Sealed.{inner_of, unsealed, sealed_of}
 use Rattle.sealed.proofs.Laws.{refused_none}
 use Rattle.edition.specs.Edition.{usage_of, wrong_size}
-use Rattle.edition.specs.declared.Asked.{Asked}
-use Rattle.edition.specs.declared.Asked.TheVariants as type
-use Rattle.edition.specs.declared.Choice.{Choice}
-use Rattle.edition.specs.declared.Choice.TheVariants.{Open, Locked}
+use Rattle.edition.specs.Edition.{Choice}
 use Rattle.edition.specs.declared.CardRecord.{CardRecord}
 use Rattle.either_card.specs.Personal.{is_personal, read_zero, chosen, choosing}
 use Rattle.either_card.specs.Either.{card_act_of, sealed_card_act_of, given_for, sealed_card_of}
 use Rattle.either_card.specs.Code.{given_of}
-use Rattle.either_card.specs.declared.CardAnswer.{CardAnswer}
+use Rattle.either_card.specs.Answers.{CardAnswer}
 use Rattle.either_card.proofs.Laws.{refusal_given}
 use Rattle.either_card.proofs.Sealed.{inner_card_act}
 use Rattle.tally.specs.Change.{in_range, settled_of}
 use Rattle.tally.specs.Full.{counts}
 use Rattle.tally.specs.declared.change.Figures.{Figures}
-use Rattle.tally.specs.declared.change.Settled.{Settled}
-use Rattle.tally.specs.declared.change.Settled.TheVariants.{Kept, Outside}
+use Rattle.std.specs.Prelude.{Option, Some, None}
 use Rattle.tally.proofs.Laws.{kept_is, not_counted}
 use Rattle.kept.specs.Kept.{settled_at, settled_by, lastly, figures_by, kept_checks, kept_act_of, kept_for, kept_answer_of, kept_image_after, sealed_kept_of, sealed_kept_answer_of, sealed_kept_image_after}
 use Rattle.kept.proofs.Laws.{out_of_range}
@@ -64,6 +60,7 @@ use Rattle.demands.specs.Demand2.{bare_of}
 use Rattle.demands.specs.Figures.{Never29, KeptSameRun, settled_in, AsWithout, Turned, Stores, InRange, StaysInRange, number_outside, OutOfRange, ResetKeeps, outside, moved_outside, new_outside, kept_table, Demand1Kept}
 use Rattle.demands.proofs.Demand1.{rule, met_rule, none_else, Signed, met_sign, by_table, same_number, demand_1}
 use Rattle.demands.proofs.Figures.{in_range_act, counted_run, still_counted}
+use Rattle.edition.specs.declared.Usage.{Usage}
 
 -- what a refusal gives, and what it leaves
 owes : (st : KeptState) (e : Sent) (n : ℕ) → eqb n 0 ≡ false → kept_act_in st e ≡ Refused n → kept_answer_to st e ≡ owed_for st.state e (row n (refused_sign n) (any_frame true))
@@ -94,7 +91,7 @@ numbered st (bare frame) = same_number (is_personal st.state.card.edition st.sta
 numbered st (sealed frame) = same_number (is_personal st.state.card.edition st.state.session.stage (inner_of frame)) _
 
 -- figures that leave their ranges are a store's
-stores : (image : List ℕ) (f : Figures) (frame : List ℕ) (act : Act) → settled_by image f act frame ≡ Outside → Stores act
+stores : (image : List ℕ) (f : Figures) (frame : List ℕ) (act : Act) → settled_by image f act frame ≡ None → Stores act
 unfolding settled_by
 stores image f frame (Stored b) h = inl (b, refl)
 stores image f frame (Moved b v a) h = inr (b, v, a, refl)
@@ -108,32 +105,36 @@ stores image f frame (TrailerStored b m) h = let z : ◌≡◌ {A = ℕ} 0 1 = c
 stores image f frame (Loaded v a) h = let z : ◌≡◌ {A = ℕ} 0 1 = cc in absurd (omega arith)
 stores image f frame Halted h = let z : ◌≡◌ {A = ℕ} 0 1 = cc in absurd (omega arith)
 
+as_without : (st : KeptState) (e : Sent) → in_range st.figures ≡ true → (g : Figures) → settled_in st e ≡ Some g → AsWithout st e
+unfolding kept_after
+as_without st e fits g q =
+    let act : kept_act_in st e ≡ act_of st.state e = in_range_act st e fits ∙ ap (λ (x : Option Figures). lastly x (act_of st.state e)) q in
+    let figures : figures_upon st e ≡ g = ap (λ (x : KeptState). x.figures) (kept_after_acts st e) ∙ rw (act, q) in
+    record { act = act; answer = same_answer st e act; left = same_state st e act; settles = q ∙ ap Some (sym figures) }
+
 pub in_range_lem : InRange
-unfolding kept_after refused_sign
+unfolding refused_sign
 in_range_lem st e fits = go (settled_in st e) refl
   where
-    go : (x : Settled) → settled_in st e ≡ x → AsWithout st e ⊎ (Stores (act_of st.state e) × (settled_in st e ≡ Outside) × Turned st e (row 29 Nothing (any_frame true)))
-    go (Kept g) q =
-        let act : kept_act_in st e ≡ act_of st.state e = in_range_act st e fits ∙ ap (λ (x : Settled). lastly x (act_of st.state e)) q in
-        let figures : figures_upon st e ≡ g = ap (λ (x : KeptState). x.figures) (kept_after_acts st e) ∙ rw (act, q) in
-        inl (record { act = act; answer = same_answer st e act; left = same_state st e act; settles = q ∙ ap Kept (sym figures) })
-    go Outside q =
-        inr (stores st.state.image st.figures (frame_in e) (act_of st.state e) q, q, turned_by st e (row 29 Nothing (any_frame true)) (refl, refl) (in_range_act st e fits ∙ ap (λ (x : Settled). lastly x (act_of st.state e)) q))
+    go : (x : Option Figures) → settled_in st e ≡ x → AsWithout st e ⊎ (Stores (act_of st.state e) × (settled_in st e ≡ None) × Turned st e (row 29 Nothing (any_frame true)))
+    go (Some g) q = inl (as_without st e fits g q)
+    go None q =
+        inr (stores st.state.image st.figures (frame_in e) (act_of st.state e) q, q, turned_by st e (row 29 Nothing (any_frame true)) (refl, refl) (in_range_act st e fits ∙ ap (λ (x : Option Figures). lastly x (act_of st.state e)) q))
 
 -- new figures that are kept are in range
 module _ (image : List ℕ) (f g : Figures) (fits : in_range f ≡ true) where
-  same_fits : ◌≡◌ {A = Settled} (Kept f) (Kept g) → in_range g ≡ true
+  same_fits : ◌≡◌ {A = Option Figures} (Some f) (Some g) → in_range g ≡ true
   same_fits q = let e : f ≡ g = cc in rw (← e) fits
 
-  at_fits : (b : Block) (new : List ℕ) → settled_at image f b new ≡ Kept g → in_range g ≡ true
+  at_fits : (b : Block) (new : List ℕ) → settled_at image f b new ≡ Some g → in_range g ≡ true
   unfolding settled_at
   at_fits b new q = go (counts (length image) b) q
     where
-      go : (t : Bool) → cond t (settled_of f (content_of image b) new) (Kept f) ≡ Kept g → in_range g ≡ true
+      go : (t : Bool) → cond t (settled_of f (content_of image b) new) (Some f) ≡ Some g → in_range g ≡ true
       go true q = (kept_is f g (content_of image b) new q).0
       go false q = same_fits q
 
-  kept_fits : (frame : List ℕ) (act : Act) → settled_by image f act frame ≡ Kept g → in_range g ≡ true
+  kept_fits : (frame : List ℕ) (act : Act) → settled_by image f act frame ≡ Some g → in_range g ≡ true
   unfolding settled_by
   kept_fits frame (Refused n) q = same_fits q
   kept_fits frame (Authenticated t l) q = same_fits q
@@ -150,9 +151,9 @@ module _ (image : List ℕ) (f g : Figures) (fits : in_range f ≡ true) where
 after_fits : (st : KeptState) (e : Sent) → in_range st.figures ≡ true → in_range (kept_after st e).figures ≡ true
 after_fits st e fits = rw (kept_after_acts st e) (go (settled_by st.state.image st.figures (kept_act_in st e) (frame_in e)) refl)
   where
-    go : (x : Settled) → settled_by st.state.image st.figures (kept_act_in st e) (frame_in e) ≡ x → in_range (figures_by x st.figures) ≡ true
-    go (Kept g) q = kept_fits st.state.image st.figures g fits (frame_in e) (kept_act_in st e) q
-    go Outside q = fits
+    go : (x : Option Figures) → settled_by st.state.image st.figures (kept_act_in st e) (frame_in e) ≡ x → in_range (figures_by x st.figures) ≡ true
+    go (Some g) q = kept_fits st.state.image st.figures g fits (frame_in e) (kept_act_in st e) q
+    go None q = fits
 
 pub stays_in_range : StaysInRange
 unfolding kept_run_of
@@ -241,16 +242,16 @@ reset_keeps st = (refl, refl, refl)
 
 -- what the last row asks of a command is what its act makes of the figures
 module _ (image : List ℕ) (k : CardRecord) (f : Figures) (s : Session) (frame : List ℕ) where
-  loads : (t : Total) (a : ℕ) → outside (settled_by image f (load_of t a) frame) ≡ false
+  loads : (t : Result ℕ SumError) (a : ℕ) → outside (settled_by image f (load_of t a) frame) ≡ false
   unfolding load_of settled_by
-  loads (total.Fits v) a = refl
-  loads total.Negative a = refl
-  loads total.Outside a = refl
+  loads (Ok v) a = refl
+  loads (Err total.Negative) a = refl
+  loads (Err total.Outside) a = refl
 
   moves : (r : Register) (b : Block) → outside (settled_by image f (move_of r b) frame) ≡ moved_outside image f r b
   unfolding move_of settled_by
-  moves Empty b = refl
-  moves (Full v a) b = refl
+  moves None b = refl
+  moves (Some (v, a)) b = refl
 
   shows : (b : Block) → outside (settled_by image f (shown_of image b) frame) ≡ false
   unfolding shown_of settled_by
@@ -298,15 +299,15 @@ module _ (image : List ℕ) (k : CardRecord) (f : Figures) (s : Session) (frame 
       go passes (refuses n) a z = absurd (a z)
       go passes passes a z = done (command_of s.stage frame)
 
-  chooses : (x : Choice) (u : Asked) (n : ℕ) → outside (settled_by image f (choosing x u n) frame) ≡ false
+  chooses : (x : Choice) (u : Option Usage) (n : ℕ) → outside (settled_by image f (choosing x u n) frame) ≡ false
   unfolding choosing settled_by
   chooses x u n = go (eqb n 0) x u
     where
-      go : (t : Bool) (x : Choice) (u : Asked) → outside (settled_by image f (cond t (chosen x u) (Refused n)) frame) ≡ false
+      go : (t : Bool) (x : Choice) (u : Option Usage) → outside (settled_by image f (cond t (chosen x u) (Refused n)) frame) ≡ false
       go false x u = refl
-      go true x type.Unknown = refl
-      go true Open (type.For u) = refl
-      go true (Locked v) (type.For u) = refl
+      go true x None = refl
+      go true None (Some u) = refl
+      go true (Some v) (Some u) = refl
 
   wanted : number_of (card_act_of image k s frame) ≡ 0 → outside (settled_by image f (card_act_of image k s frame) frame) ≡ new_outside image f s frame (wanted_of k s frame)
   unfolding card_act_of number_of
@@ -323,9 +324,9 @@ module _ (image : List ℕ) (k : CardRecord) (f : Figures) (s : Session) (frame 
       go false false z = judged z
 
   -- the last row, below any others
-  lasts : (x : Settled) (act : Act) → lastly x act ≡ cond (outside x) (Refused 29) act
-  lasts (Kept g) act = refl
-  lasts Outside act = refl
+  lasts : (x : Option Figures) (act : Act) → lastly x act ≡ cond (outside x) (Refused 29) act
+  lasts (Some g) act = refl
+  lasts None act = refl
 
   last_row : (p : Wanted → Bool) (w : Wanted) (rows : List Row) (act : Act) → number_of act ≡ 0
       → (number_of (rule w rows act) ≡ 0 → outside (settled_by image f (rule w rows act) frame) ≡ p w)

@@ -24,6 +24,7 @@ pub mod OneScript
 pub mod OneReader
 pub mod OnePlay
 pub mod OneRecord
+pub mod OneCrossing
 pub mod OneBoard
 pub mod OneEdge
 pub mod OneCardEdge
@@ -36,3 +37,5 @@ pub mod OneKeptEdge
 pub mod OneDesk
 pub mod Boundary
 pub mod CardBoundary
+pub mod Patches
+pub mod Played

@@ -16,10 +16,10 @@ use denote.Ref.{MutBor}
 use denote.Triple.Clauses.{at_exit}
 use Rattle.session.specs.declared.Session.{Session}
 use Rattle.card.specs.Step.{answer_of, image_after, reset_of}
-use Rattle.card.specs.declared.Answer.{Answer}
+use Rattle.card.specs.Answers.{Answer}
 use Rattle.edition.specs.declared.CardRecord.{CardRecord}
 use Rattle.either_card.specs.Either.{card_answer_of, card_image_after, card_reset_of}
-use Rattle.either_card.specs.declared.CardAnswer.{CardAnswer}
+use Rattle.either_card.specs.Answers.{CardAnswer}
 use Rattle.board.specs.contracts.frame as frame-contract
 use Rattle.board.specs.contracts.field_reset as reset-contract
 use Rattle.board.specs.contracts.card_frame as card-frame-contract

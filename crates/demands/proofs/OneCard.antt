@@ -8,7 +8,7 @@ use denote.Bor.{Bor}
 use denote.Ref.{MutBor, at_last}
 use Rattle.session.specs.declared.Session.{Session}
 use Rattle.card.specs.declared.Sign.{Sign}
-use Rattle.card.specs.declared.Answer.{Answer}
+use Rattle.card.specs.Answers.{Answer}
 use Rattle.judge.specs.declared.Act.{Act}
 use Rattle.card.proofs.step.Reads as step-contract
 use Rattle.card.proofs.enact.Reads as enact-contract

@@ -9,8 +9,7 @@ use denote.Ref.{MutBor, at_last}
 use Rattle.session.specs.declared.Session.{Session}
 use Rattle.judge.specs.declared.Act.{Act}
 use Rattle.edition.specs.declared.CardRecord.{CardRecord}
-use Rattle.either_card.specs.declared.CardAnswer.{CardAnswer}
-use Rattle.either_card.specs.declared.sealing.SealedCardAnswer.{SealedCardAnswer}
+use Rattle.either_card.specs.Answers.{CardAnswer}
 use Rattle.either_card.proofs.judge.Reads as judge-contract
 use Rattle.either_card.proofs.enact.Reads as enact-contract
 use Rattle.either_card.proofs.refusal.Reads as refusal-contract
@@ -43,10 +42,10 @@ module _ (κ κ' : Lft) (image : MutBor (List ℕ)) (k : CardRecord) (s : Sessio
   step r r' last last' p q = (p.0 ∙ sym q.0, p.1 ∙ sym q.1)
 
   -- the same with a checksum
-  abbrev SealedMeets : SealedCardAnswer → List ℕ → Type 0
+  abbrev SealedMeets : CardAnswer → List ℕ → Type 0
   SealedMeets r last = sealed-step-contract.Post (κ, (κ', tt)) (image, (k, (s, (frame, tt)))) r (at_last image last, (k, (s, (frame, tt))))
 
-  pub sealed_step_lem : (r r' : SealedCardAnswer) (last last' : List ℕ) → SealedMeets r last → SealedMeets r' last' → (r ≡ r') × (last ≡ last')
+  pub sealed_step_lem : (r r' : CardAnswer) (last last' : List ℕ) → SealedMeets r last → SealedMeets r' last' → (r ≡ r') × (last ≡ last')
   sealed_step_lem r r' last last' p q = (p.0 ∙ sym q.0, p.1 ∙ sym q.1)
 
 pub refusal : (k : CardRecord) (s : Session) (n : ℕ) → OneResult (λ r. refusal-contract.Post tt (k, (s, (n, tt))) r (k, (s, (n, tt))))

@@ -9,8 +9,7 @@ use denote.Ref.{MutBor, at_last}
 use Rattle.session.specs.declared.Session.{Session}
 use Rattle.edition.specs.declared.CardRecord.{CardRecord}
 use Rattle.tally.specs.declared.change.Figures.{Figures}
-use Rattle.kept.specs.declared.KeptAnswer.{KeptAnswer}
-use Rattle.kept.specs.declared.sealing.SealedKeptAnswer.{SealedKeptAnswer}
+use Rattle.kept.specs.Answers.{KeptAnswer}
 use Rattle.kept.proofs.step.Reads as step-contract
 use Rattle.kept.proofs.field_reset.Reads as field-reset-contract
 use Rattle.kept.proofs.no_session.Reads as no-session-contract
@@ -28,10 +27,10 @@ module _ (κ κ' : Lft) (image : MutBor (List ℕ)) (k : CardRecord) (f : Figure
   step r r' last last' p q = (p.0 ∙ sym q.0, p.1 ∙ sym q.1)
 
   -- the same with a checksum
-  abbrev SealedMeets : SealedKeptAnswer → List ℕ → Type 0
+  abbrev SealedMeets : KeptAnswer → List ℕ → Type 0
   SealedMeets r last = sealed-step-contract.Post (κ, (κ', tt)) (image, (k, (f, (s, (frame, tt))))) r (at_last image last, (k, (f, (s, (frame, tt)))))
 
-  pub sealed_step_lem : (r r' : SealedKeptAnswer) (last last' : List ℕ) → SealedMeets r last → SealedMeets r' last' → (r ≡ r') × (last ≡ last')
+  pub sealed_step_lem : (r r' : KeptAnswer) (last last' : List ℕ) → SealedMeets r last → SealedMeets r' last' → (r ≡ r') × (last ≡ last')
   sealed_step_lem r r' last last' p q = (p.0 ∙ sym q.0, p.1 ∙ sym q.1)
 
 pub field_reset_lem : (k : CardRecord) (f : Figures) → OneResult (λ r. field-reset-contract.Post tt (k, (f, tt)) r (k, (f, tt)))

@@ -17,7 +17,9 @@ use denote.Triple.Clauses.{at_exit}
 use Rattle.script.specs.Script.{events_start}
 use Rattle.reader.specs.Reader.{step_at}
 use Rattle.reader.specs.declared.Reader.{Reader}
-use Rattle.reader.specs.declared.Found.{Found}
+use Rattle.std.specs.Prelude.{Option, Result}
+use Rattle.script.specs.declared.Refusal.{Refusal}
+use Rattle.reader.specs.declared.Event.{Event}
 use Rattle.reader.specs.declared.Step.{Step}
 use Rattle.reader.specs.contracts.open as open-contract
 use Rattle.reader.specs.contracts.Reader.place as place-contract
@@ -83,7 +85,7 @@ module _ {M : Type 1} {𝓤 : Ura M} (𝓛 : Logic 𝓤) (mem : Memory → SProp
 pub event_from_lem : (κ : Lft) (script : Bor (List ℕ)) (at : ℕ) → OneResult (λ r. event-from-contract.Post (κ, tt) (script, (at, tt)) r (script, (at, tt)))
 event_from_lem κ script at = exact
 
-pub bytes_of : (κ : Lft) (script : Bor (List ℕ)) (found : Found) (r r' : Bor (List ℕ))
+pub bytes_of : (κ : Lft) (script : Bor (List ℕ)) (found : Option (Result Event Refusal)) (r r' : Bor (List ℕ))
     → bytes-of-contract.Post (κ, tt) (script, (found, tt)) r (script, (found, tt)) → bytes-of-contract.Post (κ, tt) (script, (found, tt)) r' (script, (found, tt))
     → r.now ≡ r'.now
 bytes_of κ script found r r' p q = p ∙ sym q

@@ -12,6 +12,7 @@ use Rattle.script.proofs.events_start.Reads as events-start-contract
 use Rattle.script.proofs.event_refusal.Reads as event-refusal-contract
 use Rattle.script.proofs.next_at.Reads as next-at-contract
 use Rattle.script.proofs.refusal_of.Reads as refusal-of-contract
+use Rattle.script.proofs.ev1_choice.Reads as ev1-choice-contract
 use Rattle.script.proofs.ev1_script.Reads as ev1-script-contract
 use Rattle.demands.specs.One.{OneResult}
 use Rattle.demands.proofs.Exact.{exact}
@@ -37,6 +38,9 @@ event_refusal_lem κ script at = exact
 
 pub refusal_of_lem : (κ : Lft) (script : Bor (List ℕ)) → OneResult (λ r. refusal-of-contract.Post (κ, tt) (script, tt) r (script, tt))
 refusal_of_lem κ script = exact
+
+pub ev1_choice_lem : (κ : Lft) (script : Bor (List ℕ)) → OneResult (λ r. ev1-choice-contract.Post (κ, tt) (script, tt) r (script, tt))
+ev1_choice_lem κ script = exact
 
 pub ev1_script_lem : (κ : Lft) (script : Bor (List ℕ)) → OneResult (λ r. ev1-script-contract.Post (κ, tt) (script, tt) r (script, tt))
 ev1_script_lem κ script = exact

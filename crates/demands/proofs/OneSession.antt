@@ -1,7 +1,7 @@
 -- One result for each public function of `session`, on the contract that its source states.
 -- Assumes nothing.
 use Prim.Native.Nat.{ℕ}
-use Rattle.session.specs.declared.Auth.{Auth}
+use Rattle.session.specs.Session.{Auth}
 use Rattle.layout.specs.declared.Sector.{Sector}
 use Rattle.session.specs.declared.Session.{Session}
 use Rattle.session.specs.declared.Stage.{Stage}

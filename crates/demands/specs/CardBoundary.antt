@@ -1,13 +1,11 @@
 -- The demands at the exported calls of a card with its record: a board lends an image, four bytes and twelve bytes of any content, and makes one call after the other.
-use Rattle.std.specs.Prelude.{◌≡◌, List, [], ◌∷◌, ℕ, length, replicate}
+use Rattle.std.specs.Prelude.{◌≡◌, List, [], ◌∷◌, ℕ, length, replicate, None, Option, Some}
 use Rattle.card.specs.declared.Sign.TheVariants.{Nothing}
 use Rattle.record.specs.Record.{record_of, session_from}
 use Rattle.edition.specs.Edition.{old_card}
 use Rattle.edition.specs.Bytes.{record_bytes, found_in}
-use Rattle.edition.specs.declared.Found.{Found}
-use Rattle.edition.specs.declared.Found.TheVariants as found
 use Rattle.edition.specs.declared.CardRecord.{CardRecord}
-use Rattle.cardedge.specs.CardEdge.{packed_with}
+use Rattle.crossing.specs.Crossing.{packed_with}
 use Rattle.runs.specs.Run.{State, begin, Sent, reset, bare, sealed, answer_to, image_upon, run_of}
 use Rattle.demands.specs.Demand1.{Row, table, asked, no_reply, Met, owed_for}
 
@@ -45,9 +43,9 @@ without_card l (bare frame) = record { result = packed_with 11 Nothing 0; reply 
 without_card l (sealed frame) = record { result = packed_with 11 Nothing 0; reply = no_reply (sealed frame); left = record { image = l.image; card = l.card; bytes = replicate 12 0 } }
 
 -- what is owed for whatever is lent
-abbrev pub card_given_for : Found → CardLent → Sent → CardGiven
-card_given_for (found.Card k) l e = card_given_by (card_state_of k l) e
-card_given_for found.Nothing l e = without_card l e
+abbrev pub card_given_for : Option CardRecord → CardLent → Sent → CardGiven
+card_given_for (Some k) l e = card_given_by (card_state_of k l) e
+card_given_for None l e = without_card l e
 
 abbrev pub card_given : CardLent → Sent → CardGiven
 card_given l e = card_given_for (found_in l.card) l e
@@ -55,7 +53,7 @@ card_given l e = card_given_for (found_in l.card) l e
 -- demand 1 for any twelve bytes and any record: a row that is met refuses, with twelve zeros for the session and the four bytes as they were
 abbrev pub CardDemand1 : CardRecord → CardLent → Sent → Type 0
 CardDemand1 k l e =
-    length l.card ≡ 4 → found_in l.card ≡ found.Card k → (r : Row) → Met r (asked (card_state_of k l) e) (table (card_state_of k l) e)
+    length l.card ≡ 4 → found_in l.card ≡ Some k → (r : Row) → Met r (asked (card_state_of k l) e) (table (card_state_of k l) e)
     → card_given l e
     ≡ record {
       result = packed_with r.number r.air (owed_for (card_state_of k l) e r).nak;
@@ -65,7 +63,7 @@ CardDemand1 k l e =
 
 -- four zeros are an old card, both ways; and every record comes back from its bytes
 abbrev pub RecordsCross : Type 0
-RecordsCross = (record_bytes old_card ≡ replicate 4 0) × ((k : CardRecord) → found_in (record_bytes k) ≡ found.Card k)
+RecordsCross = (record_bytes old_card ≡ replicate 4 0) × ((k : CardRecord) → found_in (record_bytes k) ≡ Some k)
 
 -- calls one after the other, each on what the one before left
 unfoldable pub card_calls_of : CardLent → List Sent → CardLent

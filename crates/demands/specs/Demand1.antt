@@ -1,5 +1,5 @@
 -- Demand 1: any image, session and frame get the card's answer or one numbered refusal, each exactly when the table says.
-use Rattle.std.specs.Prelude.{◌≡◌, Bool, true, false, not, cond, ◌||◌, List, [], ◌∷◌, ℕ, eqb, ◌+ℤ◌, ◌-ℤ◌, length, replicate}
+use Rattle.std.specs.Prelude.{◌≡◌, Bool, true, false, not, cond, ◌||◌, List, [], ◌∷◌, ℕ, eqb, ◌+ℤ◌, ◌-ℤ◌, length, replicate, None, Option, Some}
 use Rattle.layout.specs.Layout.{is_trailer, block_at}
 use Rattle.layout.specs.declared.Block.{Block}
 use Rattle.memory.specs.Memory.{content_of}
@@ -21,15 +21,13 @@ use Rattle.card.specs.declared.Sign.{Sign}
 use Rattle.card.specs.declared.Sign.TheVariants.{Nak, Nothing}
 use Rattle.sealed.specs.Sealed.{inner_of, unsealed}
 use Rattle.edition.specs.Edition.{usage_of, wrong_size}
-use Rattle.edition.specs.declared.Asked.{Asked}
-use Rattle.edition.specs.declared.Asked.TheVariants as type
-use Rattle.edition.specs.declared.Choice.{Choice}
-use Rattle.edition.specs.declared.Choice.TheVariants.{Open, Locked}
+use Rattle.edition.specs.Edition.{Choice}
 use Rattle.edition.specs.declared.CardRecord.{CardRecord}
 use Rattle.either_card.specs.Nak.{nak_of}
 use Rattle.either_card.specs.Personal.{is_personal}
-use Rattle.either_card.specs.declared.CardAnswer.{CardAnswer}
+use Rattle.either_card.specs.Answers.{CardAnswer}
 use Rattle.runs.specs.Run.{State, Sent, reset, bare, sealed, answer_to, image_upon}
+use Rattle.edition.specs.declared.Usage.{Usage}
 
 -- what is asked of a card: a command of either edition, or an EV1's 40h with its type byte
 pub data Wanted : Type 0 where
@@ -128,13 +126,13 @@ personal p (shared c) = false
 personal p (personalize code) = p code
 
 -- 17: none of the four types; 18: the choice is locked
-abbrev pub no_usage : Asked → Bool
-no_usage (type.For u) = false
-no_usage type.Unknown = true
+abbrev pub no_usage : Option Usage → Bool
+no_usage (Some u) = false
+no_usage None = true
 
 abbrev pub is_locked : Choice → Bool
-is_locked Open = false
-is_locked (Locked u) = true
+is_locked None = false
+is_locked (Some u) = true
 
 -- the table from 1 on, top to bottom
 abbrev pub command_rows : CardRecord → List ℕ → Session → List ℕ → List Row

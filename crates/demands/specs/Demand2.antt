@@ -1,8 +1,7 @@
 -- Demand 2: value blocks there and back, and a run whose every answer, session and image are those of the definition.
-use Rattle.std.specs.Prelude.{◌≡◌, true, false, cond, List, [], ◌∷◌, ◌++◌, map, ℕ, ℤ}
+use Rattle.std.specs.Prelude.{◌≡◌, true, false, cond, List, [], ◌∷◌, ◌++◌, map, ℕ, ℤ, Some}
 use Rattle.value.specs.Whole.{signed, in_range}
 use Rattle.value.specs.Block.{encode_of, decode_of}
-use Rattle.value.specs.declared.block.Decoded.TheVariants.{Value}
 use Rattle.session.specs.declared.Session.{Session}
 use Rattle.card.specs.Step.{answer_of, image_after}
 use Rattle.sealed.specs.Sealed.{inner_of, unsealed, sealed_answer_of, sealed_image_after}
@@ -12,11 +11,11 @@ use Rattle.runs.specs.Run.{State, Sent, reset, bare, sealed, answer_to, after, r
 
 -- every value in range and every address byte, written as a value block, read back
 abbrev pub ReadsBack : ℤ → ℕ → Type 0
-ReadsBack value address = in_range value ≡ true → (v : ℕ) × (decode_of (encode_of value address) ≡ Value v address) × (signed v ≡ value)
+ReadsBack value address = in_range value ≡ true → (v : ℕ) × (decode_of (encode_of value address) ≡ Some (v, address)) × (signed v ≡ value)
 
 -- every block that reads as a value block is rewritten byte for byte
 abbrev pub Rewritten : List ℕ → Type 0
-Rewritten block = (v address : ℕ) → decode_of block ≡ Value v address → encode_of (signed v) address ≡ block
+Rewritten block = (v address : ℕ) → decode_of block ≡ Some (v, address) → encode_of (signed v) address ≡ block
 
 -- any event of any run, through either entry: what comes before it fixes the state that it meets, and that fixes its answer and what it leaves
 pub record EventByEvent (st : State) (past : List Sent) (event : Sent) (future : List Sent) : Type 0 where

@@ -1,10 +1,9 @@
 -- Demand 3: a block that begins as a value block keeps its count.
-use Rattle.std.specs.Prelude.{◌≡◌, Bool, true, false, not, ◌||◌, cond, List, ℕ, eqb, ℤ, pos, neg_ℤ, ◌+ℤ◌}
+use Rattle.std.specs.Prelude.{◌≡◌, Bool, true, false, not, ◌||◌, cond, List, ℕ, eqb, ℤ, pos, neg_ℤ, ◌+ℤ◌, Some}
 use Rattle.layout.specs.declared.Block.{Block}
 use Rattle.memory.specs.Memory.{content_of}
 use Rattle.value.specs.Whole.{signed}
 use Rattle.value.specs.Block.{decode_of, bits_in}
-use Rattle.value.specs.declared.block.Decoded.TheVariants.{Value}
 use Rattle.session.specs.declared.Kind.{Kind}
 use Rattle.session.specs.declared.Kind.TheVariants.{Increment, Decrement, Restore}
 use Rattle.session.specs.declared.Stage.{Stage}
@@ -112,7 +111,7 @@ booked b k st frame act = entered b k st.session.stage frame (deed_of act)
 -- after any such run of a card of either edition from a fresh session the block is a value block, with the same address byte, and its value is the first one plus what was counted
 abbrev pub Demand3 : Type 0
 Demand3 =
-    (k : CardRecord) (image : List ℕ) (b : Block) (v a : ℕ) → decode_of (content_of image b) ≡ Value v a
+    (k : CardRecord) (image : List ℕ) (b : Block) (v a : ℕ) → decode_of (content_of image b) ≡ Some (v, a)
     → (events : List Sent) → NotWritten b (begin k image) events → OwnTransfers b (begin k image) events
-    → (w : ℕ) × (decode_of (content_of (run_of (begin k image) events).image b) ≡ Value w a)
+    → (w : ℕ) × (decode_of (content_of (run_of (begin k image) events).image b) ≡ Some (w, a))
     × (signed w ≡ signed v +ℤ (noted (booked b) opened (begin k image) events).sum)

@@ -1,19 +1,17 @@
 -- Runs that meet the premises, with the numbers of their answers. Of demand 3: a load transferred twice, one refused for its range, a wrong checksum, another block written, a second load; and on a
 -- 4K card a Restore, a field reset and a Halt. Of a ride card: a decrement of -50 refused and the Transfer after it too, and a load transferred into another block. Of the total: a value block
 -- written over, a value moved, a wrong checksum, and figures at the end of their range.
-use Rattle.std.specs.Prelude.{◌≡◌, List, [], ◌∷◌, ◌++◌, map, ℕ, zero, suc, ℤ, pos, negsuc, replicate}
+use Rattle.std.specs.Prelude.{◌≡◌, List, [], ◌∷◌, ◌++◌, map, ℕ, zero, suc, ℤ, pos, negsuc, replicate, None, Some}
 use Rattle.layout.specs.Layout.{block_at, sector_at, trailer_of}
 use Rattle.layout.specs.declared.Block.{Block}
 use Rattle.layout.specs.declared.Sector.{Sector}
 use Rattle.memory.specs.Memory.{content_of}
 use Rattle.value.specs.Block.{encode_of, decode_of}
-use Rattle.value.specs.declared.block.Decoded.TheVariants.{Value}
 use Rattle.edition.specs.Edition.{old_card}
 use Rattle.edition.specs.declared.Edition.TheVariants.{Ev1}
 use Rattle.edition.specs.declared.Usage.TheVariants.{Shortened}
-use Rattle.edition.specs.declared.Choice.TheVariants.{Open, Locked}
 use Rattle.edition.specs.declared.CardRecord.{CardRecord}
-use Rattle.either_card.specs.declared.CardAnswer.{CardAnswer}
+use Rattle.either_card.specs.Answers.{CardAnswer}
 use Rattle.tally.specs.Whole.{whole}
 use Rattle.tally.specs.Change.{figures_of}
 use Rattle.tally.specs.Full.{opened_of}
@@ -47,12 +45,12 @@ login b = 0x60 ∷ b ∷ replicate 6 0xFF
 
 -- a run in which a block counts from v to w
 pub record CountedRun (k : CardRecord) (image : List ℕ) (b : Block) (v w a : ℕ) (change : ℤ) (events : List Sent) (numbers : List ℕ) : Type 0 where
-  pub begins : decode_of (content_of image b) ≡ Value v a
+  pub begins : decode_of (content_of image b) ≡ Some (v, a)
   pub unwritten : NotWritten b (begin k image) events
   pub own : OwnTransfers b (begin k image) events
   pub answered : map (λ (x : CardAnswer). x.answer.number) (answers_of (begin k image) events) ≡ numbers
   pub counted : (noted (booked b) opened (begin k image) events).sum ≡ change
-  pub ends : decode_of (content_of (run_of (begin k image) events).image b) ≡ Value w a
+  pub ends : decode_of (content_of (run_of (begin k image) events).image b) ≡ Some (w, a)
 
 -- a 1K card whose block 4 holds 100 with address byte 4
 unfoldable pub purse_card : List ℕ
@@ -139,12 +137,12 @@ pub record RideRun : Type 0 where
   pub rides : RideSector ride_card ride_sector
   pub unwritten : NotWritten (trailer_of ride_sector) (begin old_card ride_card) ride_events
   pub answered : map (λ (x : CardAnswer). x.answer.number) (answers_of (begin old_card ride_card) ride_events) ≡ 0 ∷ 0 ∷ 13 ∷ 3 ∷ 0 ∷ 0 ∷ 0 ∷ 0 ∷ []
-  pub largest : decode_of (content_of (run_of (begin old_card ride_card) ride_events).image (block_at 4)) ≡ Value 50 4
-  pub risen : decode_of (content_of (run_of (begin old_card ride_card) ride_events).image (block_at 5)) ≡ Value 49 4
+  pub largest : decode_of (content_of (run_of (begin old_card ride_card) ride_events).image (block_at 4)) ≡ Some (50, 4)
+  pub risen : decode_of (content_of (run_of (begin old_card ride_card) ride_events).image (block_at 5)) ≡ Some (49, 4)
 
 -- an EV1 that is open to a choice
 abbrev pub ev1_card : CardRecord
-ev1_card = record { edition = Ev1; choice = Open }
+ev1_card = record { edition = Ev1; choice = None }
 
 -- its twin of the ride card: 4K, the same sector 1
 unfoldable pub ev1_ride_card : List ℕ
@@ -178,9 +176,9 @@ pub record Ev1RideRun : Type 0 where
   pub answered :
       map (λ (x : CardAnswer). x.answer.number) (answers_of (begin ev1_card ev1_ride_card) ev1_ride_events) ≡ 0 ∷ 0 ∷ 18 ∷ 0 ∷ 0 ∷ 0 ∷ 0 ∷ 3 ∷ 0 ∷ 0 ∷ 13 ∷ 14 ∷ 0 ∷ []
   pub values : map (λ (x : CardAnswer). x.nak) (answers_of (begin ev1_card ev1_ride_card) ev1_ride_events) ≡ 0 ∷ 0 ∷ 4 ∷ 0 ∷ 0 ∷ 0 ∷ 0 ∷ 0 ∷ 0 ∷ 0 ∷ 4 ∷ 5 ∷ 0 ∷ []
-  pub chosen : (run_of (begin ev1_card ev1_ride_card) ev1_ride_events).card ≡ record { edition = Ev1; choice = Locked Shortened }
-  pub largest : decode_of (content_of (run_of (begin ev1_card ev1_ride_card) ev1_ride_events).image (block_at 4)) ≡ Value 50 4
-  pub risen : decode_of (content_of (run_of (begin ev1_card ev1_ride_card) ev1_ride_events).image (block_at 5)) ≡ Value 49 4
+  pub chosen : (run_of (begin ev1_card ev1_ride_card) ev1_ride_events).card ≡ record { edition = Ev1; choice = Some Shortened }
+  pub largest : decode_of (content_of (run_of (begin ev1_card ev1_ride_card) ev1_ride_events).image (block_at 4)) ≡ Some (50, 4)
+  pub risen : decode_of (content_of (run_of (begin ev1_card ev1_ride_card) ev1_ride_events).image (block_at 5)) ≡ Some (49, 4)
 
 -- the figures after each event of a run
 unfoldable pub figures_along : KeptState → List Sent → List Figures
@@ -217,12 +215,12 @@ pub record FiguresRun (st : KeptState) (events : List Sent) (numbers : List ℕ)
   pub summed : map (λ (f : Figures). whole f.sum) (figures_along st events) ≡ sums
 
 pub record TotalRun : Type 0 where
-  pub opened : opened_of total_card ≡ record { number = 0; figures = figures_of (pos 2) (pos 70) }
+  pub opened : opened_of total_card ≡ Some (figures_of (pos 2) (pos 70))
   pub run :
       FiguresRun (opening old_card total_card) total_events (0 ∷ 0 ∷ 0 ∷ 0 ∷ 0 ∷ 0 ∷ 14 ∷ 0 ∷ 0 ∷ 0 ∷ 0 ∷ 0 ∷ [])
       (pos 2 ∷ pos 2 ∷ pos 1 ∷ pos 1 ∷ pos 1 ∷ pos 2 ∷ pos 2 ∷ pos 2 ∷ pos 2 ∷ pos 2 ∷ pos 2 ∷ pos 2 ∷ [])
       (pos 70 ∷ pos 70 ∷ negsuc 29 ∷ negsuc 29 ∷ negsuc 29 ∷ negsuc 59 ∷ negsuc 59 ∷ negsuc 59 ∷ negsuc 59 ∷ negsuc 59 ∷ negsuc 64 ∷ negsuc 64 ∷ [])
-  pub anew : opened_of (kept_run_of (opening old_card total_card) total_events).state.image ≡ record { number = 0; figures = figures_of (pos 2) (negsuc 64) }
+  pub anew : opened_of (kept_run_of (opening old_card total_card) total_events).state.image ≡ Some (figures_of (pos 2) (negsuc 64))
 
 -- the same card with a count of 255, which no opening gives
 abbrev pub counted_full : KeptState

@@ -1,14 +1,12 @@
 -- The total on the card: what holds of the count and the sum that are kept beside an image, and of a card that keeps them.
-use Rattle.std.specs.Prelude.{◌≡◌, Bool, true, false, not, cond, List, [], ◌∷◌, ◌++◌, map, ◌⊎◌, ℕ, ℤ, ◌+ℤ◌, length}
+use Rattle.std.specs.Prelude.{◌≡◌, Bool, true, false, not, cond, List, [], ◌∷◌, ◌++◌, map, ◌⊎◌, ℕ, ℤ, ◌+ℤ◌, length, None, Some, Option}
 use Rattle.layout.specs.Layout.{sectors_of, trailer_of}
 use Rattle.layout.specs.declared.Block.{Block}
 use Rattle.layout.specs.declared.Sector.{Sector}
 use Rattle.memory.specs.Memory.{sixteen_of, content_of}
 use Rattle.value.specs.Whole.{signed}
 use Rattle.value.specs.Block.{encode_of, decode_of}
-use Rattle.value.specs.declared.block.Decoded.TheVariants.{Value, NoValue}
-use Rattle.session.specs.declared.Register.{Register}
-use Rattle.session.specs.declared.Register.TheVariants.{Empty, Full}
+use Rattle.session.specs.Session.{Register}
 use Rattle.session.specs.declared.Session.{Session}
 use Rattle.frame.specs.declared.Command.TheVariants.{Unknown, Authenticate, Read, Write, Store, Begin, Apply, Transfer, Halt}
 use Rattle.judge.specs.Checks.{incoherent}
@@ -20,10 +18,8 @@ use Rattle.edition.specs.declared.CardRecord.{CardRecord}
 use Rattle.either_card.specs.Either.{card_reset_of}
 use Rattle.tally.specs.Whole.{whole}
 use Rattle.tally.specs.Change.{in_range}
-use Rattle.tally.specs.Full.{count_of, sum_of, opened_of}
+use Rattle.tally.specs.Full.{count_of, sum_of, full_figures}
 use Rattle.tally.specs.declared.change.Figures.{Figures}
-use Rattle.tally.specs.declared.change.Settled.{Settled}
-use Rattle.tally.specs.declared.change.Settled.TheVariants.{Kept, Outside}
 use Rattle.kept.specs.Kept.{settled_at, settled_by, kept_answer_of, kept_image_after, sealed_kept_of, sealed_kept_answer_of, sealed_kept_image_after}
 use Rattle.runs.specs.Run.{State, begin, Sent, reset, bare, sealed, answer_to, after, run_of, answers_of, frame_in, act_of}
 use Rattle.runs.specs.Watch.{noted}
@@ -37,7 +33,7 @@ use Rattle.demands.specs.OneWay.{RideSector, DataBlock, AtMost}
 abbrev pub FullCount : Type 0
 FullCount =
     (k : CardRecord) (image : List ℕ) (events : List Sent)
-    → (kept_run_of (opening k image) events).figures ≡ (opened_of (kept_run_of (opening k image) events).state.image).figures
+    → (kept_run_of (opening k image) events).figures ≡ full_figures (kept_run_of (opening k image) events).state.image
 
 -- of a card they are, read as whole numbers, how many value blocks there are on it then, and the sum of their values
 abbrev pub TotalOnTheCard : Type 0
@@ -62,9 +58,9 @@ Never29 =
 -- demand 3 with figures: its premises are about the run without them, which has the same acts
 abbrev pub Demand3Kept : Type 0
 Demand3Kept =
-    (k : CardRecord) (image : List ℕ) (b : Block) (v a : ℕ) → decode_of (content_of image b) ≡ Value v a
+    (k : CardRecord) (image : List ℕ) (b : Block) (v a : ℕ) → decode_of (content_of image b) ≡ Some (v, a)
     → (events : List Sent) → NotWritten b (begin k image) events → OwnTransfers b (begin k image) events
-    → (w : ℕ) × (decode_of (content_of (kept_run_of (opening k image) events).state.image b) ≡ Value w a)
+    → (w : ℕ) × (decode_of (content_of (kept_run_of (opening k image) events).state.image b) ≡ Some (w, a))
     × (signed w ≡ signed v +ℤ (noted (booked b) opened (begin k image) events).sum)
 
 -- and the ride card
@@ -75,9 +71,9 @@ OneWayKept =
 
 abbrev pub NoneEverKept : Type 0
 NoneEverKept =
-    (k : CardRecord) (image : List ℕ) (t : Sector) → RideSector image t → ((b : Block) → DataBlock t b → decode_of (content_of image b) ≡ NoValue)
+    (k : CardRecord) (image : List ℕ) (t : Sector) → RideSector image t → ((b : Block) → DataBlock t b → decode_of (content_of image b) ≡ None)
     → (events : List Sent) → NotWritten (trailer_of t) (begin k image) events
-    → (b : Block) → DataBlock t b → decode_of (content_of (kept_run_of (opening k image) events).state.image b) ≡ NoValue
+    → (b : Block) → DataBlock t b → decode_of (content_of (kept_run_of (opening k image) events).state.image b) ≡ None
 
 -- demand 2 with figures, from any state and figures: what comes before an event fixes what it meets, and that fixes its answer and what it leaves
 pub record KeptEventByEvent (st : KeptState) (past : List Sent) (event : Sent) (future : List Sent) : Type 0 where
@@ -98,7 +94,7 @@ abbrev pub KeptSameRun : Type 0
 KeptSameRun = (st : KeptState) (events : List Sent) → kept_run_of st events ≡ kept_run_of st (map bare_of events)
 
 -- what the act without figures would make of them
-abbrev pub settled_in : KeptState → Sent → Settled
+abbrev pub settled_in : KeptState → Sent → Option Figures
 settled_in st e = settled_by st.state.image st.figures (act_of st.state e) (frame_in e)
 
 -- an event does what it does without figures: the answer, and record, image and session afterwards; and these are the new figures
@@ -106,7 +102,7 @@ pub record AsWithout (st : KeptState) (e : Sent) : Type 0 where
   pub act : kept_act_in st e ≡ act_of st.state e
   pub answer : kept_answer_to st e ≡ answer_to st.state e
   pub left : (kept_after st e).state ≡ after st.state e
-  pub settles : settled_in st e ≡ Kept (figures_upon st e)
+  pub settles : settled_in st e ≡ Some (figures_upon st e)
 
 -- an event is refused by a row: the answer that it owes, and image and figures as they were
 pub record Turned (st : KeptState) (e : Sent) (r : Row) : Type 0 where
@@ -122,7 +118,7 @@ Stores act = ((b : Block) × (act ≡ Stored b)) ⊎ ((b : Block) × (v : ℕ) �
 abbrev pub InRange : Type 0
 InRange =
     (st : KeptState) (e : Sent) → in_range st.figures ≡ true
-    → AsWithout st e ⊎ (Stores (act_of st.state e) × (settled_in st e ≡ Outside) × Turned st e (row 29 Nothing (any_frame true)))
+    → AsWithout st e ⊎ (Stores (act_of st.state e) × (settled_in st e ≡ None) × Turned st e (row 29 Nothing (any_frame true)))
 
 -- and whatever comes, figures in range stay in range
 abbrev pub StaysInRange : Type 0
@@ -144,13 +140,13 @@ ResetKeeps =
     → (kept_answer_to st reset ≡ card_reset_of st.state.card) × (kept_image_upon st reset ≡ st.state.image) × (figures_upon st reset ≡ st.figures)
 
 -- demand 1 with figures: the last row, for the second frame of a Write and for a Transfer
-abbrev pub outside : Settled → Bool
-outside (Kept f) = false
-outside Outside = true
+abbrev pub outside : Option Figures → Bool
+outside (Some f) = false
+outside None = true
 
 abbrev pub moved_outside : List ℕ → Figures → Register → Block → Bool
-moved_outside image f Empty b = false
-moved_outside image f (Full v a) b = outside (settled_at image f b (encode_of (signed v) a))
+moved_outside image f None b = false
+moved_outside image f (Some (v, a)) b = outside (settled_at image f b (encode_of (signed v) a))
 
 abbrev pub new_outside : List ℕ → Figures → Session → List ℕ → Wanted → Bool
 new_outside image f s frame (shared Unknown) = false

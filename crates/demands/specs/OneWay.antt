@@ -1,5 +1,5 @@
 -- A ride card cannot gain rides: in a sector whose data blocks only count down, the largest value never rises.
-use Rattle.std.specs.Prelude.{◌≡◌, true, false, List, ℕ, eqb, ℤ}
+use Rattle.std.specs.Prelude.{◌≡◌, true, false, List, ℕ, eqb, ℤ, None, Some}
 use Rattle.std.specs.Int.Signed.{le_z}
 use Rattle.layout.specs.Layout.{sector_of, trailer_of, is_trailer}
 use Rattle.layout.specs.declared.Block.{Block}
@@ -10,7 +10,6 @@ use Rattle.access.specs.Bits.{access_bytes_of, well_formed, group_bits}
 use Rattle.access.specs.declared.bits.AccessBytes.{AccessBytes}
 use Rattle.value.specs.Whole.{signed}
 use Rattle.value.specs.Block.{decode_of}
-use Rattle.value.specs.declared.block.Decoded.TheVariants.{Value, NoValue}
 use Rattle.edition.specs.declared.CardRecord.{CardRecord}
 use Rattle.runs.specs.Run.{begin, Sent, run_of}
 use Rattle.demands.specs.Demand3.{NotWritten}
@@ -34,7 +33,7 @@ pub record DataBlock (t : Sector) (b : Block) : Type 0 where
 
 -- no value block of the sector has a value above this
 abbrev pub AtMost : ℤ → List ℕ → Sector → Type 0
-AtMost top image t = (b : Block) → DataBlock t b → (v a : ℕ) → decode_of (content_of image b) ≡ Value v a → le_z (signed v) top ≡ true
+AtMost top image t = (b : Block) → DataBlock t b → (v a : ℕ) → decode_of (content_of image b) ≡ Some (v, a) → le_z (signed v) top ≡ true
 
 -- on a card of either edition, what no value exceeds at the start, none exceeds after any run from a fresh session without an accepted Write to the trailer
 abbrev pub OneWay : Type 0
@@ -45,6 +44,6 @@ OneWay =
 -- and a sector without a value block never gets one
 abbrev pub NoneEver : Type 0
 NoneEver =
-    (k : CardRecord) (image : List ℕ) (t : Sector) → RideSector image t → ((b : Block) → DataBlock t b → decode_of (content_of image b) ≡ NoValue)
+    (k : CardRecord) (image : List ℕ) (t : Sector) → RideSector image t → ((b : Block) → DataBlock t b → decode_of (content_of image b) ≡ None)
     → (events : List Sent) → NotWritten (trailer_of t) (begin k image) events
-    → (b : Block) → DataBlock t b → decode_of (content_of (run_of (begin k image) events).image b) ≡ NoValue
+    → (b : Block) → DataBlock t b → decode_of (content_of (run_of (begin k image) events).image b) ≡ None

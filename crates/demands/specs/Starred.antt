@@ -1,17 +1,13 @@
 -- The starred bench examples, 1 to 9, as one table: a question, and the answer that the card owes.
-use Rattle.std.specs.Prelude.{◌≡◌, Bool, true, false, List, [], ◌∷◌, map, ℕ, ◌+◌, ℤ, pos, negsuc}
+use Rattle.std.specs.Prelude.{◌≡◌, Bool, true, false, List, [], ◌∷◌, map, ℕ, ◌+◌, ℤ, pos, negsuc, Err, None, Ok, Option, Result, Some}
 use Rattle.layout.specs.Layout.{block_at, sector_of, is_trailer, group_of, group_number}
 use Rattle.layout.specs.declared.Group.{Group}
 use Rattle.layout.specs.declared.Group.TheVariants.{First, Second, Third, Trailer}
 use Rattle.access.specs.Bits.{bits_of}
-use Rattle.access.specs.declared.bits.Bits.{Bits}
-use Rattle.access.specs.declared.bits.Bits.TheVariants.{Blocked, Are}
 use Rattle.value.specs.Whole.{signed, bits}
 use Rattle.value.specs.Block.{encode_of, decode_of}
-use Rattle.value.specs.declared.block.Decoded.{Decoded}
-use Rattle.value.specs.declared.block.Decoded.TheVariants.{Value, NoValue}
-use Rattle.value.specs.declared.sum.Total.{Total}
-use Rattle.value.specs.declared.sum.Total.TheVariants.{Fits, Negative, Outside}
+use Rattle.value.specs.declared.sum.SumError.{SumError}
+use Rattle.value.specs.declared.sum.SumError.TheVariants.{Negative, Outside}
 use Rattle.session.specs.declared.Kind.TheVariants.{Increment, Decrement}
 use Rattle.judge.specs.Judge.{total_for, load_of}
 use Rattle.card.specs.Effects.{number_of}
@@ -47,19 +43,19 @@ pub data Owed : Type 0 where
   sum : ℤ → Owed
   refused : ℕ → Owed
 
-abbrev pub access_answer : Bits → Owed
-access_answer (Are n) = three_bits n
-access_answer Blocked = blocked
+abbrev pub access_answer : Option ℕ → Owed
+access_answer (Some n) = three_bits n
+access_answer None = blocked
 
-abbrev pub decode_answer : Decoded → Owed
-decode_answer (Value v a) = value_at (signed v) a
-decode_answer NoValue = no_value_block
+abbrev pub decode_answer : Option (ℕ × ℕ) → Owed
+decode_answer (Some (v, a)) = value_at (signed v) a
+decode_answer None = no_value_block
 
 -- an operand below zero and a sum that leaves the range are refused, each with the card's own number for it
-abbrev pub sum_answer : Total → Owed
-sum_answer (Fits v) = sum (signed v)
-sum_answer Negative = refused (number_of (load_of Negative 0))
-sum_answer Outside = refused (number_of (load_of Outside 0))
+abbrev pub sum_answer : Result ℕ SumError → Owed
+sum_answer (Ok v) = sum (signed v)
+sum_answer (Err Negative) = refused (number_of (load_of (Err Negative) 0))
+sum_answer (Err Outside) = refused (number_of (load_of (Err Outside) 0))
 
 -- the answer of the definitions; block 128 is the first of a large sector
 unfoldable pub answer : Question → Owed

@@ -2,7 +2,7 @@
 ghost use Rattle.std.specs.Prelude.{◌≤◌};
 
 use crate::record;
-use directory::{Found, Looked, Part, Version};
+use directory::{Part, Version};
 use layout::Block;
 
 // A record: how many bytes count, forty-seven bytes, and the checksum of those that count.
@@ -40,22 +40,11 @@ fn image_of(directory: &[u8], announcing: u8) -> [u8; 4096] {
     image
 }
 
-fn version_number(version: Version) -> u8 {
-    match version {
-        Version::Absent => 0,
-        Version::One => 1,
-        Version::Two => 2,
-    }
-}
-
-// No directory is refused with 15.
-fn refusal_for(version: u8) -> u8 {
-    if version == 0 { 15 } else { 0 }
-}
-
+// A version's number; 0 for none, which is refused with 15.
 fn is_version(card: &[u8], version: u8) -> bool {
-    let same = version_number(directory::version_of(card)) == version;
-    same & (directory::refusal_of(card) == refusal_for(version))
+    let announced = directory::version_of(card).map_or(0, |v| v as u8);
+    let read = directory::intact_version(card).map_or_else(|r| r.number(), |_| 0);
+    (announced == version) & (read == if version == 0 { 15 } else { 0 })
 }
 
 fn holds(card: &[u8], place: u8, number: u32) -> bool {
@@ -64,12 +53,10 @@ fn holds(card: &[u8], place: u8, number: u32) -> bool {
 
 // Are the entries of a card the numbers of its record?
 fn has_entries(card: &[u8], directory: &[u8]) -> bool {
-    let mut place: u8 = 1;
-    while place <= 38 {
+    for place in 1..39 {
         if !holds(card, place, record::number(directory, 2 * place as usize)) {
             return false;
         }
-        place += 1;
     }
     true
 }
@@ -77,19 +64,6 @@ fn has_entries(card: &[u8], directory: &[u8]) -> bool {
 fn is_directory(card: &[u8], directory: &[u8]) -> bool {
     let info = directory::info_byte(card, Part::First) == record::byte(directory, 1);
     is_version(card, record::byte(directory, 0)) & info & has_entries(card, directory)
-}
-
-fn is_found(found: Found, flag: u8, sector: u8) -> bool {
-    match found {
-        Found::At(s) => (flag == 1) & (s.0 == sector),
-        Found::Nothing => (flag == 0) & (sector == 0),
-    }
-}
-
-fn has_answer(a: Looked, lookup: &[u8]) -> bool {
-    let found = a.found;
-    let same = is_found(found, record::byte(lookup, 3), record::byte(lookup, 4));
-    same & (a.number == 0) & (a.count == record::byte(lookup, 5))
 }
 
 fn is_marked(lookup: &[u8], place: u8) -> bool {
@@ -100,13 +74,11 @@ fn is_marked(lookup: &[u8], place: u8) -> bool {
 // Are the sectors that hold the number those that a lookup's record marks? Sector 16 has no entry, so its mark counts for nothing.
 fn has_marked(card: &[u8], lookup: &[u8], entries: u8) -> bool {
     let wanted = record::number(lookup, 1);
-    let mut place: u8 = 1;
-    while place <= 38 {
+    for place in 1..39 {
         let held = holds(card, place, wanted) & (place <= entries);
         if held != is_marked(lookup, place) {
             return false;
         }
-        place += 1;
     }
     true
 }
@@ -116,32 +88,25 @@ fn entries_of(bytes: usize) -> u8 {
     if bytes == 1024 { 15 } else { 38 }
 }
 
+// The record's flag, sector and count.
 fn is_lookup(card: &[u8], lookup: &[u8]) -> bool {
-    let answer = directory::lookup(card, record::number(lookup, 1));
-    has_answer(answer, lookup) & has_marked(card, lookup, entries_of(card.len()))
-}
-
-// What a card is asked for.
-#[derive(Clone, Copy)]
-enum Question {
-    Version,
-    Directory,
-    Lookup,
-}
-
-fn agrees_on(card: &[u8], question: Question, record: &[u8]) -> bool {
-    match question {
-        Question::Version => is_version(card, record::byte(record, 2)),
-        Question::Directory => is_directory(card, record),
-        Question::Lookup => is_lookup(card, record),
-    }
+    let Ok(answer) = directory::lookup(card, record::number(lookup, 1)) else {
+        return false;
+    };
+    let sector = answer.found.map_or(0, |s| s.0);
+    let same = (answer.found.is_some() as u8 == record::byte(lookup, 3))
+        & (sector == record::byte(lookup, 4));
+    same & (answer.count == record::byte(lookup, 5))
+        & has_marked(card, lookup, entries_of(card.len()))
 }
 
 // Asks the card that a directory's record describes, with an announcing byte.
-fn agrees(directory: &[u8], announcing: u8, card: u8, question: Question, record: &[u8]) -> bool {
+fn agrees<F: Fn(&[u8]) -> bool>(directory: &[u8], announcing: u8, card: u8, asks: F) -> bool
+    requires { F.IsAlwaysCallable asks }
+{
     let image = image_of(directory, announcing);
     let size = size_of(card);
-    agrees_on(&image[..size], question, record)
+    asks(&image[..size])
 }
 
 // A record: 1 for a 1K card or 4 for a 4K card, its announcing byte, and the version, or 0 for a refusal. Both parts are empty, as those of the second directory.
@@ -149,14 +114,16 @@ pub(crate) fn agrees_in_version(record: &[u8], directories: &[u8]) -> bool {
     let empty = record::from(directories, 159);
     let announcing = record::byte(record, 1);
     let card = record::byte(record, 0);
-    agrees(empty, announcing, card, Question::Version, record)
+    agrees(empty, announcing, card, |card| {
+        is_version(card, record::byte(record, 2))
+    })
 }
 
 // A record: version, info byte, 38 numbers (zeros past the version's), the five blocks, the announcing byte.
 pub(crate) fn agrees_in_directory(record: &[u8]) -> bool {
     let announcing = record::byte(record, 158);
     let card = record::byte(record, 0);
-    agrees(record, announcing, card, Question::Directory, record)
+    agrees(record, announcing, card, |card| is_directory(card, record))
 }
 
 // A record: which directory, counted from 0, a number, whether it is found, its sector, the count, and for each sector whether it holds the number.
@@ -165,5 +132,5 @@ pub(crate) fn agrees_in_lookup(record: &[u8], directories: &[u8]) -> bool {
     let directory = record::from(directories, at);
     let announcing = record::byte(directory, 158);
     let card = record::byte(directory, 0);
-    agrees(directory, announcing, card, Question::Lookup, record)
+    agrees(directory, announcing, card, |card| is_lookup(card, record))
 }

@@ -5,15 +5,24 @@ mod cards;
 mod files;
 mod record;
 
-use files::{Kind, load, play, space};
+use files::{load, play};
 use std::io;
 
 fn main(rt: HostRuntime) -> io::Result<()> {
-    let mut file = space();
-    let n = load(&rt, "directories.bin", &mut file);
-    let directories = &file[..n];
-    play(&rt, "checksums.bin", Kind::Checksums, directories)?;
-    play(&rt, "versions.bin", Kind::Versions, directories)?;
-    play(&rt, "directories.bin", Kind::Directories, directories)?;
-    play(&rt, "lookups.bin", Kind::Lookups, directories)
+    let mut space = [0u8; 32768];
+    let directories = load(&rt, "directories.bin", &mut space);
+    play(&rt, "checksums.bin", 49, cards::agrees_in_checksum)?;
+    play(
+        &rt,
+        "versions.bin",
+        3,
+        |record| cards::agrees_in_version(record, directories),
+    )?;
+    play(&rt, "directories.bin", 159, cards::agrees_in_directory)?;
+    play(
+        &rt,
+        "lookups.bin",
+        46,
+        |record| cards::agrees_in_lookup(record, directories),
+    )
 }

@@ -3,30 +3,18 @@ ghost use Rattle.std.specs.Prelude.{◌<◌};
 
 // Byte j; 0 past the end.
 pub(crate) fn byte(record: &[u8], j: usize) -> u8 {
-    if j < record.len() {
-        return record[j];
-    }
-    0
-}
-
-fn wide(b: u8) -> u32
-    ensures { result < 256 }
-{
-    b as u32
+    record.get(j).copied().unwrap_or(0)
 }
 
 pub(crate) fn number(record: &[u8], j: usize) -> u32
     requires { j < 1000 }
 {
-    256 * wide(byte(record, j)) + wide(byte(record, j + 1))
+    u32::from(u16::from_be_bytes([byte(record, j), byte(record, j + 1)]))
 }
 
 // The bytes from a place on; none past the end.
 pub(crate) fn from(bytes: &[u8], at: usize) -> &[u8] {
-    if at <= bytes.len() {
-        return &bytes[at..];
-    }
-    &bytes[..0]
+    bytes.get(at..).unwrap_or(&[])
 }
 
 // The sixteen bytes from a place on; zeros where there are fewer.

@@ -1,8 +1,8 @@
 -- The checksum over a part, block by block.
 -- Assumes nothing.
 use mathlib.Core.Path.{◌≡◌, refl, sym, ◌∙◌, ap}
-use mathlib.Core.List.{List, [], ◌∷◌, ◌++◌}
-use Prim.Native.Nat.{ℕ, suc, ◌+◌, ◌≤◌, ◌<◌}
+use mathlib.Core.List.{List, [], ◌∷◌, ◌++◌, append-nil}
+use Prim.Native.Nat.{ℕ, suc, ◌+◌, ◌-◌, ◌≤◌, ◌<◌}
 use native.Mathlib.Numerals.{add-one}
 use native.Mathlib.Omega.{arith}
 use lib.Dec.{eqb}
@@ -10,7 +10,13 @@ use lib.Bits.{bit_xor}
 use lib.ListN.{length, take, drop, get_or, take-append-drop, drop_of_length-le, get_or-append}
 use lib.Seq.{drop-cons, drop-append-le}
 use Rattle.directory.specs.Checksum.{shifted, shifts, byte_on, bytes_on, checksum_of}
-use Rattle.directory.specs.Directory.{right_bytes}
+use Rattle.directory.specs.Code.{first_of, end_of, contents}
+use Rattle.directory.specs.Directory.{part_of, right_bytes, is_intact}
+use Rattle.directory.specs.declared.Part.{Part}
+use Rattle.directory.specs.declared.Part.TheVariants.{First, Second}
+use Rattle.layout.specs.Layout.{block_at}
+use Rattle.memory.specs.Memory.{content_of}
+use Rattle.memory.proofs.Laws.{content_length}
 
 pub bytes_append : (c : ℕ) (xs ys : List ℕ) → bytes_on c (xs ++ ys) ≡ bytes_on (bytes_on c xs) ys
 unfolding bytes_on
@@ -21,32 +27,6 @@ bytes_append c (x ∷ xs) ys = bytes_append (byte_on c x) xs ys
 pub turn : (bytes : List ℕ) (c i : ℕ) → i < length bytes → bytes_on (shifts 8 (bit_xor c (get_or bytes i 0))) (drop (i + 1) bytes) ≡ bytes_on c (drop i bytes)
 unfolding bytes_on byte_on
 turn bytes c i h = rw (add-one, drop-cons bytes i 0 h)
-
--- eight bytes more of a loop
-module _ (l : List ℕ) (i : ℕ) (h : i + 8 ≤ length l) where
-  abbrev eight_at : List ℕ
-  eight_at =
-      get_or l i 0 ∷ get_or l (i + 1) 0 ∷ get_or l (i + 2) 0 ∷ get_or l (i + 3) 0 ∷ get_or l (i + 4) 0 ∷ get_or l (i + 5) 0 ∷ get_or l (i + 6) 0 ∷ get_or l (i + 7) 0 ∷ []
-
-  eight_at_lem : drop i l ≡ eight_at ++ drop (i + 8) l
-  eight_at_lem =
-      let e : (n : ℕ) → n < 8 → drop (i + n) l ≡ get_or l (i + n) 0 ∷ drop (i + (n + 1)) l = λ n k.
-      let s : i + (n + 1) ≡ suc (i + n) = omega arith in rw s (drop-cons l (i + n) 0 (omega arith)) in
-      let z : drop i l ≡ get_or l i 0 ∷ drop (i + 1) l =
-      let s : i + 1 ≡ suc i = omega arith in rw s (drop-cons l i 0 (omega arith)) in
-      rw (
-        z,
-        e 1 (omega arith),
-        e 2 (omega arith),
-        e 3 (omega arith),
-        e 4 (omega arith),
-        e 5 (omega arith),
-        e 6 (omega arith),
-        e 7 (omega arith),
-      )
-
-  pub word_turn : (c r : ℕ) → r ≡ bytes_on c eight_at → bytes_on r (drop (i + 8) l) ≡ bytes_on c (drop i l)
-  word_turn c r e = ap (λ (x : ℕ). bytes_on x (drop (i + 8) l)) e ∙ sym (bytes_append c eight_at (drop (i + 8) l)) ∙ ap (bytes_on c) (sym eight_at_lem)
 
 -- the bytes of a block, byte by byte
 module _ (l : List ℕ) (n : length l ≡ 16) where
@@ -91,19 +71,43 @@ module _ (l : List ℕ) (n : length l ≡ 16) where
 pub two_halves : (c : ℕ) (l : List ℕ) → bytes_on (bytes_on c (take 8 l)) (drop 8 l) ≡ bytes_on c l
 two_halves c l = sym (bytes_append c (take 8 l) (drop 8 l)) ∙ ap (bytes_on c) (take-append-drop 8 l)
 
-module _ (a b : List ℕ) (n : length a ≡ 16) (r : ℕ) where
-  pub right_two_lem : r ≡ bytes_on (bytes_on 0xC7 (drop 1 a)) b → eqb r (get_or a 0 0) ≡ right_bytes (a ++ b)
-  unfolding right_bytes checksum_of
-  right_two_lem e =
-      rw (drop-append-le 1 a b (omega arith), bytes_append 0xC7 (drop 1 a) b, get_or-append a b 0 0 (omega arith), e)
+-- a part is its first block, and the others after it
+module _ (image : List ℕ) where
+  abbrev rest_of : Part → List ℕ
+  rest_of part = contents image (end_of part - (first_of part + 1)) (first_of part + 1)
 
-  pub right_three_lem : (c : List ℕ) → r ≡ bytes_on (bytes_on (bytes_on 0xC7 (drop 1 a)) b) c → eqb r (get_or a 0 0) ≡ right_bytes (a ++ (b ++ c))
-  unfolding right_bytes checksum_of
-  right_three_lem c e =
-      rw (
-        drop-append-le 1 a (b ++ c) (omega arith),
-        bytes_append 0xC7 (drop 1 a) (b ++ c),
-        bytes_append (bytes_on 0xC7 (drop 1 a)) b c,
-        get_or-append a (b ++ c) 0 0 (omega arith),
-        e,
-      )
+  blocks : (part : Part) → part_of image part ≡ content_of image (block_at (first_of part)) ++ rest_of part
+  unfolding part_of contents
+  blocks First = rw append-nil
+  blocks Second = rw append-nil
+
+  module _ (part : Part) where
+    abbrev head : List ℕ
+    head = content_of image (block_at (first_of part))
+
+    one : 1 ≤ length head
+    one = omega (arith, content_length image (block_at (first_of part)))
+
+    module _ (first end : ℕ) (from : first ≡ first_of part) (to : end ≡ end_of part) where
+      -- the register after the first block, and after them all
+      pub begun : (c : ℕ) → c ≡ bytes_on 0xC7 (drop 1 (content_of image (block_at first)))
+          → bytes_on c (contents image (end - (first + 1)) (first + 1)) ≡ checksum_of (drop 1 (part_of image part))
+      unfolding checksum_of
+      begun c e = rw (e, from, to, blocks part, drop-append-le 1 head (rest_of part) one, bytes_append 0xC7 (drop 1 head) (rest_of part))
+
+      pub compared : (r : ℕ) → r ≡ checksum_of (drop 1 (part_of image part)) → eqb r (get_or (content_of image (block_at first)) 0 0) ≡ is_intact image part
+      unfolding is_intact right_bytes
+      compared r e = rw (e, from, blocks part, get_or-append head (rest_of part) 0 0 one)
+
+  -- a block more, and none
+  pub next_block : (b end c d : ℕ) → b < end → d ≡ bytes_on c (content_of image (block_at b)) → bytes_on d (contents image (end - (b + 1)) (b + 1)) ≡ bytes_on c (contents image (end - b) b)
+  unfolding contents
+  next_block b end c d h e =
+      let n : end - b ≡ suc (end - (b + 1)) = omega arith in
+      rw (n, bytes_append c (content_of image (block_at b)) (contents image (end - (b + 1)) (b + 1)), e)
+
+  pub no_block : (b end c : ℕ) → end ≤ b → bytes_on c (contents image (end - b) b) ≡ c
+  unfolding contents bytes_on
+  no_block b end c h =
+      let n : end - b ≡ 0 = omega arith in
+      rw n

@@ -12,11 +12,12 @@ use borrow.Author.Tests.{ltb-true, ltb-false, leb-true, leb-false}
 use Rattle.layout.specs.Layout.{has_block, block_at}
 use Rattle.layout.specs.declared.Block.{Block}
 use Rattle.memory.specs.Memory.{content_of, byte_of}
-use Rattle.directory.specs.Directory.{entry_at}
+use Rattle.directory.specs.Directory.{entries_of, entry_at}
 use Rattle.directory.specs.Lookup.{lookup_of}
 use Rattle.directory.specs.Code.{number_at}
-use Rattle.directory.specs.Every.{entry_count, ReadAll, TooLarge}
-use Rattle.directory.specs.declared.Found.TheVariants.{Nothing}
+use Rattle.directory.specs.Every.{ReadAll, TooLarge}
+use Rattle.directory.specs.declared.Version.{Version}
+use Rattle.std.specs.Prelude.{None, Ok}
 use Rattle.directory.proofs.Places.{first_place, second_place, past_places}
 use Rattle.directory.proofs.Every.{every_entry}
 
@@ -72,10 +73,10 @@ module _ (image : List ℕ) (s : Small image) where
       go false e true f = omega (arith, second_place image place (leb-false place 15 e) (leb-true place 38 f), number_small 64 (place - 15))
       go false e false f = omega (arith, past_places image place (leb-false place 38 f))
 
-  by_reading : (wanted : ℕ) → 65535 < wanted → ReadAll image wanted (lookup_of image wanted) → lookup_of image wanted ≡ record { number = 0; found = Nothing; count = entry_count image }
-  by_reading wanted h (ReadAll.lowest place held first a) = absurd (omega (arith, held.held, entry_small place held.from))
-  by_reading wanted h (ReadAll.nowhere none a) = a
+  by_reading : (v : Version) (wanted : ℕ) → 65535 < wanted → ReadAll image v wanted (lookup_of image wanted) → lookup_of image wanted ≡ Ok (record { found = None; count = length (entries_of image v) })
+  by_reading v wanted h (ReadAll.lowest place held first a) = absurd (omega (arith, held.held, entry_small place held.from))
+  by_reading v wanted h (ReadAll.nowhere none a) = a
 
 pub too_large : TooLarge
 unfolding Small
-too_large image wanted s ok h = by_reading image s wanted h (every_entry image wanted ok)
+too_large image v wanted s ok h = by_reading image s v wanted h (every_entry image v wanted ok)

@@ -1,10 +1,12 @@
 -- The register is linear in what it is fed, so the quick ways of the code need to be right for single bits alone.
 -- Assumes nothing.
 use mathlib.Core.Path.{◌≡◌, refl, sym, ◌∙◌, ap, ap₂}
-use mathlib.Core.List.{[], ◌∷◌}
+use mathlib.Core.List.{List, [], ◌∷◌}
 use Prim.Native.Nat.{ℕ, zero, suc, ◌+◌, ◌*◌, ◌/◌, ◌%◌, ◌^◌, ◌<◌}
 use native.Mathlib.Omega.{arith}
 use lib.Bits.{bit_xor, xor_zero_l, xor_zero_r}
+use lib.ListN.{length, get_or}
+use Rattle.std.specs.Int.{w64, from_be_bytes}
 use Rattle.xor.proofs.Xor.{xor_swap, xor_times}
 use Rattle.directory.specs.Checksum.{shifted, shifts, byte_on, bytes_on}
 use Rattle.directory.specs.Code.{feed, standing, low_bits_of}
@@ -189,3 +191,17 @@ module _ (a b c d e f g h : ℕ) (ha : a < 256) (hb : b < 256) (hc : c < 256) (h
       (fed 2 x ab c ac refl hc
       ∙ ap (λ (y : ℕ). byte_on y c)
       (fed 1 x a b ab refl hb ∙ ap (λ (y : ℕ). byte_on y b) (fed 0 x 0 a a (omega arith) ha)))))))
+
+-- and of the number that eight bytes are, the highest first
+pub word_bytes : (l : List ℕ) → length l ≡ 8 → ((i : ℕ) → get_or l i 0 < 256) → (w : ℕ) → w ≡ from_be_bytes w64 l → (x : ℕ) → feed 8 x w ≡ bytes_on x l
+word_bytes [] n small w e x = absurd (omega arith)
+word_bytes (a ∷ []) n small w e x = absurd (omega arith)
+word_bytes (a ∷ b ∷ []) n small w e x = absurd (omega arith)
+word_bytes (a ∷ b ∷ c ∷ []) n small w e x = absurd (omega arith)
+word_bytes (a ∷ b ∷ c ∷ d ∷ []) n small w e x = absurd (omega arith)
+word_bytes (a ∷ b ∷ c ∷ d ∷ f ∷ []) n small w e x = absurd (omega arith)
+word_bytes (a ∷ b ∷ c ∷ d ∷ f ∷ g ∷ []) n small w e x = absurd (omega arith)
+word_bytes (a ∷ b ∷ c ∷ d ∷ f ∷ g ∷ h ∷ []) n small w e x = absurd (omega arith)
+word_bytes (a ∷ b ∷ c ∷ d ∷ f ∷ g ∷ h ∷ i ∷ []) n small w e x =
+    word_right a b c d f g h i (small 0) (small 1) (small 2) (small 3) (small 4) (small 5) (small 6) (small 7) w (omega arith) x
+word_bytes (a ∷ b ∷ c ∷ d ∷ f ∷ g ∷ h ∷ i ∷ j ∷ l) n small w e x = absurd (omega arith)

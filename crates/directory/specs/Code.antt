@@ -1,12 +1,10 @@
 -- What only contracts inside this crate cite. What the directory means does not rest on it.
-use Rattle.std.specs.Prelude.{◌≡◌, cond, List, ℕ, zero, suc, ◌+◌, ◌*◌, ◌^◌, ◌/◌, ◌%◌, eqb}
+use Rattle.std.specs.Prelude.{◌≡◌, List, [], ◌++◌, ℕ, zero, suc, ◌+◌, ◌*◌, ◌^◌, ◌/◌, ◌%◌}
 use Rattle.std.specs.Int.Bits.{bit_xor}
-use Rattle.memory.specs.Memory.{byte_of}
+use Rattle.memory.specs.Memory.{byte_of, content_of}
 use Rattle.directory.specs.Checksum.{byte_on, bytes_on}
-use Rattle.directory.specs.Directory.{entries_of}
-use Rattle.directory.specs.Lookup.{version_refusal, refused_of, searched}
-use Rattle.directory.specs.declared.Version.{Version}
-use Rattle.directory.specs.declared.Looked.{Looked}
+use Rattle.directory.specs.declared.Part.{Part}
+use Rattle.directory.specs.declared.Part.TheVariants.{First, Second}
 use Rattle.layout.specs.Layout.{block_at}
 
 -- the register after the last n bytes of a number, the highest of them first
@@ -38,7 +36,16 @@ low_bits_of s =
 abbrev pub number_at : List ℕ → ℕ → ℕ → ℕ
 number_at image first k = byte_of image (block_at (first + k / 8)) (2 * (k % 8)) + 256 * byte_of image (block_at (first + k / 8)) (2 * (k % 8) + 1)
 
--- the lookup in an image that has this version
-unfoldable pub version_lookup : List ℕ → Version → ℕ → Looked
-version_lookup image v wanted =
-    cond (eqb (version_refusal image v) 0) (searched (entries_of image v) wanted) (refused_of (version_refusal image v))
+-- the first block of a part, and the one after its last
+abbrev pub first_of : Part → ℕ
+first_of First = 1
+first_of Second = 64
+
+abbrev pub end_of : Part → ℕ
+end_of First = 3
+end_of Second = 67
+
+-- the contents of some blocks, from one on
+unfoldable pub contents : List ℕ → ℕ → ℕ → List ℕ
+contents image zero b = []
+contents image (suc n) b = content_of image (block_at b) ++ contents image n (b + 1)

@@ -1,22 +1,22 @@
 -- The MIFARE Application Directory of AN10787: how it is announced, and what it holds.
-use Rattle.std.specs.Prelude.{Bool, cond, ◌&&◌, List, [], ◌∷◌, ◌++◌, ℕ, ◌+◌, ◌*◌, ◌-◌, ◌%◌, leb, eqb, length, get_or, drop}
+use Rattle.std.specs.Prelude.{Bool, cond, ◌&&◌, List, [], ◌∷◌, ◌++◌, ℕ, ◌+◌, ◌*◌, ◌-◌, ◌%◌, leb, eqb, length, get_or, drop, Option, Some, None}
 use Rattle.layout.specs.Layout.{sectors_of, block_at}
 use Rattle.memory.specs.Memory.{content_of, byte_of}
 use Rattle.directory.specs.Checksum.{checksum_of}
 use Rattle.directory.specs.declared.Version.{Version}
-use Rattle.directory.specs.declared.Version.TheVariants.{Absent, One, Two}
+use Rattle.directory.specs.declared.Version.TheVariants.{One, Two}
 use Rattle.directory.specs.declared.Part.{Part}
 use Rattle.directory.specs.declared.Part.TheVariants.{First, Second}
 
 -- what an announcing byte says of a card with so many sectors: bit 7, there is a directory; bits 1 and 0, its version. The first is for sectors up to 15, the second up to 39
-unfoldable pub announced_of : ℕ → ℕ → Version
+unfoldable pub announced_of : ℕ → ℕ → Option Version
 announced_of byte sectors =
     cond (leb 128 byte)
-    (cond (eqb (byte % 4) 1 && leb 16 sectors) One (cond (eqb (byte % 4) 2 && leb 40 sectors) Two Absent))
-    Absent
+    (cond (eqb (byte % 4) 1 && leb 16 sectors) (Some One) (cond (eqb (byte % 4) 2 && leb 40 sectors) (Some Two) None))
+    None
 
 -- the version of an image's directory: byte 9 of sector 0's trailer announces it
-unfoldable pub version_of : List ℕ → Version
+unfoldable pub version_of : List ℕ → Option Version
 version_of image = announced_of (byte_of image (block_at 3) 9) (sectors_of (length image))
 
 -- the bytes of a part: two blocks of sector 0, three blocks of sector 16
@@ -47,7 +47,6 @@ entries_in image p = numbers_of (drop 2 (part_of image p))
 
 -- the entries of a version, in the directory's order
 unfoldable pub entries_of : List ℕ → Version → List ℕ
-entries_of image Absent = []
 entries_of image One = entries_in image First
 entries_of image Two = entries_in image First ++ entries_in image Second
 

@@ -4,6 +4,7 @@
 
 ghost use Rattle.std.specs.Prelude.{◌≡◌};
 ghost use Rattle.directory.specs.Directory.{announced_of, version_of, info_of};
+ghost use Rattle.directory.specs.Lookup.{refusal_number};
 
 use layout::{Block, Sector};
 
@@ -14,14 +15,13 @@ mod words;
 
 pub use entries::entry_at;
 pub use parts::{checksum, is_intact};
-pub use search::{lookup, refusal_of, sector_of_place};
+pub use search::{entry_count, intact_version, lookup, sector_of_place};
 
-// The version of a directory, or none that is known.
+// The version of a directory, by its number.
 #[derive(Clone, Copy)]
 pub enum Version {
-    Absent,
-    One,
-    Two,
+    One = 1,
+    Two = 2,
 }
 
 // A part of a directory: that of sector 0, and that of sector 16.
@@ -31,41 +31,49 @@ pub enum Part {
     Second,
 }
 
-// The sector that a lookup found.
+// Why a directory is not read, by the number of the refusal: no card has this size, no directory is announced, or a checksum is wrong.
 #[derive(Clone, Copy)]
-pub enum Found {
-    At(Sector),
-    Nothing,
+pub enum Refusal {
+    NoCard = 11,
+    NoDirectory = 15,
+    WrongChecksum = 16,
 }
 
-// What a lookup gives: its number, the sector, and how many entries it looked at.
+impl Refusal {
+    pub fn number(self) -> u8
+        ensures { result ≡ refusal_number self }
+    {
+        self as u8
+    }
+}
+
+// What a lookup finds: the sector, where there is one, and how many entries it looked at.
 #[derive(Clone, Copy)]
 pub struct Looked {
-    pub number: u8,
-    pub found: Found,
+    pub found: Option<Sector>,
     pub count: u8,
 }
 
 // What an announcing byte says of a card with so many sectors.
 #[tactic(auto, unfolding(crate::specs::Directory::announced_of))]
-fn announced(byte: u8, sectors: usize) -> Version
+fn announced(byte: u8, sectors: usize) -> Option<Version>
     ensures { result ≡ announced_of byte sectors }
 {
     if byte < 128 {
-        return Version::Absent;
+        return None;
     }
     let number = byte % 4;
     if (number == 1) & (16 <= sectors) {
-        return Version::One;
+        return Some(Version::One);
     }
     if (number == 2) & (40 <= sectors) {
-        return Version::Two;
+        return Some(Version::Two);
     }
-    Version::Absent
+    None
 }
 
 // The version that an image announces and has the sectors for.
-pub fn version_of(image: &[u8]) -> Version
+pub fn version_of(image: &[u8]) -> Option<Version>
     ensures { result ≡ version_of image.now }
 {
     announced(

@@ -1,11 +1,10 @@
 // Which sector is an application's.
-ghost use Rattle.std.specs.Prelude.{◌≡◌, cond};
-ghost use Rattle.directory.specs.Lookup.{sector_of_place, refusal_of, version_refusal, refused_of, looked_of, lookup_of};
-ghost use Rattle.directory.specs.Code.{version_lookup};
-ghost use Rattle.directory.specs.declared.Version.TheVariants.{One, Two};
+ghost use Rattle.std.specs.Prelude.{◌≡◌};
+ghost use Rattle.directory.specs.Directory.{entries_of};
+ghost use Rattle.directory.specs.Lookup.{entry_count, sector_of_place, is_right, intact_version, place_from, lookup_of};
 
-use crate::{Found, Looked, Part, Version, entries, parts};
-use layout::{Block, Sector};
+use crate::{Looked, Part, Refusal, Version, entries, parts};
+use layout::Sector;
 
 // The sector of a place, counted from 1; sector 0 for a place that no directory has.
 #[tactic(auto, unfolding(crate::specs::Lookup::sector_of_place))]
@@ -21,108 +20,74 @@ pub fn sector_of_place(place: u8) -> Sector
     Sector(0)
 }
 
-fn refused(number: u8) -> Looked
-    ensures { result ≡ refused_of number }
-{
-    Looked {
-        number,
-        found: Found::Nothing,
-        count: 0,
-    }
-}
-
-// The answer for the place of the match among so many entries; place 0 is none.
-fn answer_at(entries: u8, place: u8) -> Looked
-    ensures { result ≡ looked_of entries place }
-{
-    if place == 0 {
-        return Looked {
-            number: 0,
-            found: Found::Nothing,
-            count: entries,
-        };
-    }
-    let sector = sector_of_place(place);
-    Looked {
-        number: 0,
-        found: Found::At(sector),
-        count: place,
-    }
-}
-
-// 16 where a checksum is wrong.
-fn number_of(intact: bool) -> u8
-    ensures { result ≡ cond intact 0 16 }
-{
-    if intact { 0 } else { 16 }
-}
-
-fn lookup_one(image: &[u8], wanted: u32) -> Looked
-    ensures { result ≡ version_lookup image.now One wanted }
-{
-    let a = memory::content(image, Block(1));
-    let b = memory::content(image, Block(2));
-    if parts::right_two(a, b) {
-        return answer_at(15, entries::place_in_first(a, b, wanted));
-    }
-    refused(16)
-}
-
-fn lookup_two(image: &[u8], wanted: u32) -> Looked
-    ensures { result ≡ version_lookup image.now Two wanted }
-{
-    let a = memory::content(image, Block(1));
-    let b = memory::content(image, Block(2));
-    let c = memory::content(image, Block(64));
-    let d = memory::content(image, Block(65));
-    let e = memory::content(image, Block(66));
-    let first = parts::right_two(a, b);
-    let second = parts::right_three(c, d, e);
-    let both = first & second;
-    if both {
-        let place = entries::place_in_first(a, b, wanted);
-        if place != 0 {
-            return answer_at(38, place);
-        }
-        return answer_at(38, entries::place_in_second(c, d, e, wanted));
-    }
-    refused(16)
-}
-
-fn version_refusal(image: &[u8], version: Version) -> u8
-    ensures { result ≡ version_refusal image.now version }
+// How many entries a version has.
+pub fn entry_count(version: Version) -> u8
+    ensures { result ≡ entry_count version }
 {
     match version {
-        Version::Absent => 15,
-        Version::One => number_of(parts::is_intact(image, Part::First)),
+        Version::One => 15,
+        Version::Two => 38,
+    }
+}
+
+// Are the checksums of a version right?
+#[tactic(auto, unfolding(crate::specs::Lookup::is_right))]
+fn is_right(image: &[u8], version: Version) -> bool
+    ensures { result ≡ is_right image.now version }
+{
+    match version {
+        Version::One => parts::is_intact(image, Part::First),
         Version::Two => {
             let first = parts::is_intact(image, Part::First);
             let second = parts::is_intact(image, Part::Second);
-            number_of(first & second)
+            first & second
         }
     }
 }
 
-// Why an image's directory is not read: 11, 15 or 16; 0 where it is.
-pub fn refusal_of(image: &[u8]) -> u8
-    ensures { result ≡ refusal_of image.now }
+// The version of an image's directory, where its checksums are right.
+#[tactic(auto, unfolding(crate::specs::Lookup::intact_version, crate::specs::Lookup::judged))]
+pub fn intact_version(image: &[u8]) -> Result<Version, Refusal>
+    ensures { result ≡ intact_version image.now }
 {
     if layout::sectors_of(image.len()) == 0 {
-        return 11;
+        return Err(Refusal::NoCard);
     }
-    version_refusal(image, crate::version_of(image))
+    let Some(version) = crate::version_of(image) else {
+        return Err(Refusal::NoDirectory);
+    };
+    if is_right(image, version) {
+        return Ok(version);
+    }
+    Err(Refusal::WrongChecksum)
+}
+
+// The place of the first entry that is the wanted number.
+fn place_of(image: &[u8], version: Version, wanted: u32) -> Option<u8>
+    ensures { result ≡ place_from 1 wanted (entries_of image.now version) }
+{
+    for place in 1..entry_count(version) + 1 {
+        if u32::from(entries::entry_at(image, place)) == wanted {
+            return Some(place);
+        }
+    }
+    None
 }
 
 // The lowest sector that holds a wanted number, and how many entries were looked at for it.
-pub fn lookup(image: &[u8], wanted: u32) -> Looked
+#[tactic(auto, using(crate::proofs::Every::counted), unfolding(crate::specs::Lookup::lookup_of, crate::specs::Lookup::looked_up, crate::specs::Lookup::searched, crate::specs::Lookup::looked_of))]
+pub fn lookup(image: &[u8], wanted: u32) -> Result<Looked, Refusal>
     ensures { result ≡ lookup_of image.now wanted }
 {
-    if layout::sectors_of(image.len()) == 0 {
-        return refused(11);
-    }
-    match crate::version_of(image) {
-        Version::Absent => refused(15),
-        Version::One => lookup_one(image, wanted),
-        Version::Two => lookup_two(image, wanted),
-    }
+    let version = intact_version(image)?;
+    let Some(place) = place_of(image, version, wanted) else {
+        return Ok(Looked {
+            found: None,
+            count: entry_count(version),
+        });
+    };
+    Ok(Looked {
+        found: Some(sector_of_place(place)),
+        count: place,
+    })
 }

@@ -1,26 +1,11 @@
 // The checksum eight bytes at a time. A word is eight bytes, the first one highest. What of a word goes past its end comes back lower down: modulo the polynomial
 // x^64 is x^16 + x^14, x^50 is x^2 + 1, x^25 is x + 1, and x^16 is x^6 + x^3 + x^2.
-ghost use Rattle.std.specs.Prelude.{◌≡◌, [], ◌∷◌, ◌+◌, ◌≤◌, ◌<◌, length, take, drop};
+ghost use Rattle.std.specs.Prelude.{◌≡◌, take, drop};
 ghost use Rattle.directory.specs.Checksum.{shifts, bytes_on};
 ghost use Rattle.directory.specs.Code.{feed, standing, low_bits_of, Holds};
 
 // The byte that brings a register of zeros to C7h.
 const START: u8 = 0x67;
-
-fn wide(b: u8) -> u64
-    ensures { (result ≡ b) × (result < 256) }
-{
-    b as u64
-}
-
-// Eight bytes as a word.
-fn word(b0: u8, b1: u8, b2: u8, b3: u8, b4: u8, b5: u8, b6: u8, b7: u8) -> u64
-    ensures { Holds result (b0 ∷ b1 ∷ b2 ∷ b3 ∷ b4 ∷ b5 ∷ b6 ∷ b7 ∷ []) }
-{
-    let high = 16777216 * wide(b0) + 65536 * wide(b1) + 256 * wide(b2) + wide(b3);
-    let low = 16777216 * wide(b4) + 65536 * wide(b5) + 256 * wide(b6) + wide(b7);
-    4294967296 * high + low
-}
 
 // A word that stands for what another and eight more bytes leave.
 fn fold(s: u64, w: u64) -> u64
@@ -58,54 +43,50 @@ pub(crate) fn register(s: u64) -> u8
     step(low ^ high)
 }
 
+// Eight bytes as a word.
+fn word(bytes: [u8; 8]) -> u64
+    ensures { Holds result bytes }
+{
+    u64::from_be_bytes(bytes)
+}
+
 fn first_word(block: [u8; 16]) -> u64
     ensures { Holds result (take 8 block) }
 {
-    word(
+    word([
         block[0], block[1], block[2], block[3], block[4], block[5], block[6], block[7],
-    )
+    ])
 }
 
 fn second_word(block: [u8; 16]) -> u64
     ensures { Holds result (drop 8 block) }
 {
-    word(
+    word([
         block[8], block[9], block[10], block[11], block[12], block[13], block[14], block[15],
-    )
+    ])
 }
 
 // A word that stands for the bytes of a part's first block. Its own first byte is the checksum, which is not among those it is over.
 pub(crate) fn open(block: [u8; 16]) -> u64
     ensures { standing result ≡ bytes_on 0xC7 (drop 1 block) }
 {
-    let first = word(
+    let first = word([
         START, block[1], block[2], block[3], block[4], block[5], block[6], block[7],
-    );
+    ]);
     fold(first, second_word(block))
 }
 
-// And for sixteen bytes more.
+// And for eight bytes more.
+pub(crate) fn eight_more(s: u64, bytes: [u8; 8]) -> u64
+    ensures { standing result ≡ bytes_on (standing s) bytes }
+{
+    fold(s, word(bytes))
+}
+
+// And for sixteen.
 pub(crate) fn more(s: u64, block: [u8; 16]) -> u64
     ensures { standing result ≡ bytes_on (standing s) block }
 {
     let half = fold(s, first_word(block));
     fold(half, second_word(block))
-}
-
-// And for eight bytes more, from a place on.
-pub(crate) fn eight_more(s: u64, bytes: &[u8], at: usize) -> u64
-    requires { at + 8 ≤ length bytes.now }
-    ensures { bytes_on (standing result) (drop (at + 8) bytes.now) ≡ bytes_on (standing s) (drop at bytes.now) }
-{
-    let w = word(
-        bytes[at],
-        bytes[at + 1],
-        bytes[at + 2],
-        bytes[at + 3],
-        bytes[at + 4],
-        bytes[at + 5],
-        bytes[at + 6],
-        bytes[at + 7],
-    );
-    fold(s, w)
 }

@@ -1,5 +1,6 @@
 -- What a frame gets for the record of a session, and for twelve bytes that are none.
 -- Assumes nothing.
+use Rattle.std.proofs.Common.{None, Some}
 use mathlib.Core.Path.{◌≡◌, refl, sym, ap}
 use mathlib.Core.Bool.{Bool, true, false, cond}
 use mathlib.Core.List.{List}
@@ -15,10 +16,9 @@ use Rattle.judge.specs.declared.Act.TheVariants.{Refused}
 use Rattle.card.specs.Trailer.{zeros}
 use Rattle.card.specs.Effects.{number_of, sign_of, refused_sign, reply_of, session_of, image_of}
 use Rattle.card.specs.Step.{answered, answer_of, image_after, no_session_of}
-use Rattle.card.specs.declared.Answer.{Answer}
+use Rattle.card.specs.Answers.{Answer}
 use Rattle.card.specs.declared.Sign.TheVariants.{Nothing}
 use Rattle.record.specs.Record.{value_bits, record_of, is_record, found_in, stray_of, session_from}
-use Rattle.record.specs.declared.Found.TheVariants as found
 use Rattle.record.proofs.Laws.{reads_back, no_record}
 use Rattle.edge.specs.Edge.{frame_answer, frame_image}
 
@@ -66,12 +66,12 @@ bad_record image bytes frame e = rw (no_record bytes e) (stray image frame)
 
 -- what a frame gets, by what was found in the twelve bytes
 module _ (image bytes frame : List ℕ) where
-  pub with_session : (s : Session) → found_in bytes ≡ found.Session s
+  pub with_session : (s : Session) → found_in bytes ≡ Some s
       → (answer_of image s frame ≡ frame_answer image bytes frame) × (image_after image s frame ≡ frame_image image bytes frame)
   unfolding session_from
   with_session s e = rw e (refl, refl)
 
-  pub without_session : found_in bytes ≡ found.Nothing
+  pub without_session : found_in bytes ≡ None
       → (no_session_of (length image) ≡ frame_answer image bytes frame) × (image ≡ frame_image image bytes frame)
   unfolding session_from
   without_session e = let refused = stray image frame in rw e (sym refused.0, sym refused.1)

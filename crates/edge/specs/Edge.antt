@@ -2,7 +2,7 @@
 use Rattle.std.specs.Prelude.{List, ℕ}
 use Rattle.record.specs.Record.{session_from}
 use Rattle.card.specs.Step.{answer_of, image_after}
-use Rattle.card.specs.declared.Answer.{Answer}
+use Rattle.card.specs.Answers.{Answer}
 
 -- the answer to a frame and the image after it, for a session that came as twelve bytes
 abbrev pub frame_answer : List ℕ → List ℕ → List ℕ → Answer

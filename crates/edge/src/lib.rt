@@ -7,25 +7,7 @@ ghost use Rattle.card.specs.Step.{reset_of};
 ghost use Rattle.record.specs.Record.{record_of};
 ghost use Rattle.edge.specs.Edge.{frame_answer, frame_image, version_of};
 
-use card::Answer;
-use record::Found;
-
 const VERSION: u32 = 4;
-
-// An answer handed over: its session as a record, its reply, and its number and sign in one.
-fn give(a: Answer, session: &mut [u8; 12], reply: &mut [u8; 16]) -> u32
-    ensures value { result ≡ packed_of a.number a.sign }
-    ensures session_after { session.new ≡ record_of a.session }
-    ensures reply_after { reply.new ≡ a.reply }
-{
-    let next = a.session;
-    let bytes = a.reply;
-    let sign = a.sign;
-    let number = a.number;
-    *session = record::encode(next);
-    *reply = bytes;
-    card::packed(number, sign)
-}
 
 // One frame. The session's record is replaced by the next one, and the reply is filled.
 pub fn tirlwheel_frame(
@@ -40,19 +22,20 @@ pub fn tirlwheel_frame(
     ensures image_after { image.new ≡ frame_image image.old session.old frame.now }
 {
     let a = match record::decode(*session) {
-        Found::Session(s) => card::step(image, s, frame),
-        Found::Nothing => card::no_session(image.len()),
+        Some(s) => card::step(image, s, frame),
+        None => card::no_session(image.len()),
     };
-    give(a, session, reply)
+    crossing::give(a, 0, session, reply)
 }
 
 // The field reset, for any twelve bytes.
+#[tactic(auto, using(crossing::proofs::Laws::no_value))]
 pub fn tirlwheel_field_reset(session: &mut [u8; 12], reply: &mut [u8; 16]) -> u32
     ensures value { result ≡ packed_of reset_of.number reset_of.sign }
     ensures session_after { session.new ≡ record_of reset_of.session }
     ensures reply_after { reply.new ≡ reset_of.reply }
 {
-    give(card::field_reset(), session, reply)
+    crossing::give(card::field_reset(), 0, session, reply)
 }
 
 // Which boundary this is.

@@ -1,5 +1,6 @@
 -- Four bytes there and back.
 -- Assumes nothing.
+use Rattle.std.proofs.Common.{None, Some}
 use mathlib.Core.Path.{◌≡◌, refl, sym, ◌∙◌}
 use mathlib.Core.Bool.{Bool, true, false, cond, ◌&&◌, false≢true}
 use mathlib.Core.List.{List, [], ◌∷◌}
@@ -11,37 +12,35 @@ use borrow.Author.Tests.{eqb-true, eqb-false, ltb-true}
 use Rattle.edition.specs.declared.Edition.{Edition}
 use Rattle.edition.specs.declared.Edition.TheVariants.{Old, Ev1}
 use Rattle.edition.specs.declared.Usage.TheVariants.{Double, Shortened, Random, Single}
-use Rattle.edition.specs.declared.Choice.{Choice}
-use Rattle.edition.specs.declared.Choice.TheVariants.{Open, Locked}
+use Rattle.edition.specs.Edition.{Choice}
 use Rattle.edition.specs.declared.CardRecord.{CardRecord}
-use Rattle.edition.specs.declared.Found.TheVariants.{Card, Nothing}
 use Rattle.edition.specs.Edition.{usage_of}
-use Rattle.edition.specs.Bytes.{edition_code, lock_code, type_code, record_bytes, is_usage, is_choice, is_card, edition_by, chosen_by, choice_by, named_by, found_in}
+use Rattle.edition.specs.Bytes.{edition_code, lock_code, type_code, record_bytes, is_usage, is_choice, is_card, edition_by, choice_by, named_by, found_in}
 
 -- a record is found in its own bytes
-pub found_back : (k : CardRecord) → found_in (record_bytes k) ≡ Card k
+pub found_back : (k : CardRecord) → found_in (record_bytes k) ≡ Some k
 unfolding found_in is_card is_choice is_usage named_by edition_by choice_by usage_of record_bytes
 found_back k = go k.edition k.choice
   where
-    go : (e : Edition) (x : Choice) → found_in (record_bytes (record { edition = e; choice = x })) ≡ Card (record { edition = e; choice = x })
-    go Old Open = refl
-    go Old (Locked Double) = refl
-    go Old (Locked Shortened) = refl
-    go Old (Locked Random) = refl
-    go Old (Locked Single) = refl
-    go Ev1 Open = refl
-    go Ev1 (Locked Double) = refl
-    go Ev1 (Locked Shortened) = refl
-    go Ev1 (Locked Random) = refl
-    go Ev1 (Locked Single) = refl
+    go : (e : Edition) (x : Choice) → found_in (record_bytes (record { edition = e; choice = x })) ≡ Some (record { edition = e; choice = x })
+    go Old None = refl
+    go Old (Some Double) = refl
+    go Old (Some Shortened) = refl
+    go Old (Some Random) = refl
+    go Old (Some Single) = refl
+    go Ev1 None = refl
+    go Ev1 (Some Double) = refl
+    go Ev1 (Some Shortened) = refl
+    go Ev1 (Some Random) = refl
+    go Ev1 (Some Single) = refl
 
 -- one of the four types is written as its own byte
-usage_back : (code : ℕ) → is_usage code ≡ true → (lock_code (chosen_by (usage_of code)) ≡ 1) × (type_code (chosen_by (usage_of code)) ≡ code)
+usage_back : (code : ℕ) → is_usage code ≡ true → (lock_code (usage_of code) ≡ 1) × (type_code (usage_of code) ≡ code)
 unfolding is_usage usage_of
 usage_back code h = go (eqb code 0x00) refl (eqb code 0x40) refl (eqb code 0x20) refl (eqb code 0x60) refl
   where
     go : (t : Bool) → eqb code 0x00 ≡ t → (u : Bool) → eqb code 0x40 ≡ u → (v : Bool) → eqb code 0x20 ≡ v → (w : Bool) → eqb code 0x60 ≡ w
-        → (lock_code (chosen_by (usage_of code)) ≡ 1) × (type_code (chosen_by (usage_of code)) ≡ code)
+        → (lock_code (usage_of code) ≡ 1) × (type_code (usage_of code) ≡ code)
     go true e u f v g w i = rw e (refl, sym (eqb-true code 0x00 e))
     go false e true f v g w i = rw (e, f) (refl, sym (eqb-true code 0x40 f))
     go false e false f true g w i = rw (e, f, g) (refl, sym (eqb-true code 0x20 g))
@@ -65,7 +64,7 @@ unfolding is_choice choice_by
 choice_back lock code h = go (eqb lock 0) refl h
   where
     go : (t : Bool) → eqb lock 0 ≡ t → cond t (eqb code 0) (eqb lock 1 && is_usage code) ≡ true
-        → (lock_code (cond t Open (chosen_by (usage_of code))) ≡ lock) × (type_code (cond t Open (chosen_by (usage_of code))) ≡ code)
+        → (lock_code (cond t None (usage_of code)) ≡ lock) × (type_code (cond t None (usage_of code)) ≡ code)
     go true e h = (sym (eqb-true lock 0 e), sym (eqb-true code 0 h))
     go false e h =
         let p = and_both (eqb lock 1) (is_usage code) h in
@@ -87,10 +86,10 @@ writes_back (a ∷ b ∷ c ∷ []) l h = absurd (omega arith)
 writes_back (a ∷ b ∷ c ∷ d ∷ e ∷ rest) l h = absurd (omega arith)
 
 -- so what was found in them is written as them
-pub found_writes : (bytes : List ℕ) (k : CardRecord) → length bytes ≡ 4 → found_in bytes ≡ Card k → record_bytes k ≡ bytes
+pub found_writes : (bytes : List ℕ) (k : CardRecord) → length bytes ≡ 4 → found_in bytes ≡ Some k → record_bytes k ≡ bytes
 unfolding found_in
 found_writes bytes k l e = go (is_card bytes) refl e
   where
-    go : (t : Bool) → is_card bytes ≡ t → cond t (Card (named_by bytes)) Nothing ≡ Card k → record_bytes k ≡ bytes
+    go : (t : Bool) → is_card bytes ≡ t → cond t (Some (named_by bytes)) None ≡ Some k → record_bytes k ≡ bytes
     go true c q = let p : named_by bytes ≡ k = cc in rw (← p) (writes_back bytes l c)
     go false c q = cc

@@ -1,14 +1,9 @@
 -- The card's record as four bytes: edition, locked or not, type, zero.
-use Rattle.std.specs.Prelude.{Bool, ◌&&◌, ◌||◌, cond, List, [], ◌∷◌, ℕ, eqb, ltb, get_or}
+use Rattle.std.specs.Prelude.{Bool, ◌&&◌, ◌||◌, cond, List, [], ◌∷◌, ℕ, eqb, ltb, get_or, None, Option, Some}
 use Rattle.edition.specs.declared.Edition.{Edition}
 use Rattle.edition.specs.declared.Edition.TheVariants.{Old, Ev1}
-use Rattle.edition.specs.declared.Choice.{Choice}
-use Rattle.edition.specs.declared.Choice.TheVariants.{Open, Locked}
-use Rattle.edition.specs.declared.Asked.{Asked}
-use Rattle.edition.specs.declared.Asked.TheVariants.{For, Unknown}
+use Rattle.edition.specs.Edition.{Choice}
 use Rattle.edition.specs.declared.CardRecord.{CardRecord}
-use Rattle.edition.specs.declared.Found.{Found}
-use Rattle.edition.specs.declared.Found.TheVariants.{Card, Nothing}
 use Rattle.edition.specs.Edition.{usage_of, usage_code}
 
 -- 0 old, 1 EV1; 0 open, 1 locked; the type, 0 where it is open
@@ -17,12 +12,12 @@ edition_code Old = 0
 edition_code Ev1 = 1
 
 abbrev pub lock_code : Choice → ℕ
-lock_code Open = 0
-lock_code (Locked u) = 1
+lock_code None = 0
+lock_code (Some u) = 1
 
 abbrev pub type_code : Choice → ℕ
-type_code Open = 0
-type_code (Locked u) = usage_code u
+type_code None = 0
+type_code (Some u) = usage_code u
 
 -- a record as its bytes
 unfoldable pub record_bytes : CardRecord → List ℕ
@@ -42,16 +37,12 @@ is_card bytes = ltb (get_or bytes 0 0) 2 && is_choice (get_or bytes 1 0) (get_or
 unfoldable pub edition_by : ℕ → Edition
 edition_by code = cond (eqb code 0) Old Ev1
 
-abbrev pub chosen_by : Asked → Choice
-chosen_by (For u) = Locked u
-chosen_by Unknown = Open
-
 unfoldable pub choice_by : ℕ → ℕ → Choice
-choice_by lock code = cond (eqb lock 0) Open (chosen_by (usage_of code))
+choice_by lock code = cond (eqb lock 0) None (usage_of code)
 
 unfoldable pub named_by : List ℕ → CardRecord
 named_by bytes = record { edition = edition_by (get_or bytes 0 0); choice = choice_by (get_or bytes 1 0) (get_or bytes 2 0) }
 
 -- what four bytes hold
-unfoldable pub found_in : List ℕ → Found
-found_in bytes = cond (is_card bytes) (Card (named_by bytes)) Nothing
+unfoldable pub found_in : List ℕ → Option CardRecord
+found_in bytes = cond (is_card bytes) (Some (named_by bytes)) None

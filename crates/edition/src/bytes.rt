@@ -1,9 +1,10 @@
 // The record as four bytes, for callers that cannot hold an enum: edition, locked or not, type, zero.
+// Each code is a function with a definition of its own, which the record's laws name; a `From` would state it a second time.
 ghost use Rattle.std.specs.Prelude.{◌≡◌};
 ghost use Rattle.edition.specs.Edition.{usage_code};
-ghost use Rattle.edition.specs.Bytes.{edition_code, lock_code, type_code, record_bytes, is_usage, is_choice, edition_by, chosen_by, choice_by, named_by, found_in};
+ghost use Rattle.edition.specs.Bytes.{edition_code, lock_code, type_code, record_bytes, is_usage, is_choice, edition_by, choice_by, named_by, found_in};
 
-use crate::{Asked, CardRecord, Choice, Edition, Found, Usage, usage_of};
+use crate::{CardRecord, Edition, Usage, usage_of};
 
 fn edition_code(edition: Edition) -> u8
     ensures { result ≡ edition_code edition }
@@ -14,12 +15,12 @@ fn edition_code(edition: Edition) -> u8
     }
 }
 
-fn lock_code(choice: Choice) -> u8
+fn lock_code(choice: Option<Usage>) -> u8
     ensures { result ≡ lock_code choice }
 {
     match choice {
-        Choice::Open => 0,
-        Choice::Locked(_) => 1,
+        None => 0,
+        Some(_) => 1,
     }
 }
 
@@ -34,24 +35,19 @@ fn usage_code(u: Usage) -> u8
     }
 }
 
-fn type_code(choice: Choice) -> u8
+fn type_code(choice: Option<Usage>) -> u8
     ensures { result ≡ type_code choice }
 {
-    match choice {
-        Choice::Open => 0,
-        Choice::Locked(u) => usage_code(u),
-    }
+    choice.map_or(0, usage_code)
 }
 
 pub fn encode(k: CardRecord) -> [u8; 4]
     ensures { result ≡ record_bytes k }
 {
-    let edition = k.edition;
-    let choice = k.choice;
-    let code = edition_code(edition);
-    let lock = lock_code(choice);
-    let usage = type_code(choice);
-    [code, lock, usage, 0]
+    let edition = edition_code(k.edition);
+    let lock = lock_code(k.choice);
+    let usage = type_code(k.choice);
+    [edition, lock, usage, 0]
 }
 
 // One of the four types.
@@ -81,22 +77,13 @@ fn edition_by(code: u8) -> Edition
     Edition::Ev1
 }
 
-fn chosen_by(asked: Asked) -> Choice
-    ensures { result ≡ chosen_by asked }
-{
-    match asked {
-        Asked::For(u) => Choice::Locked(u),
-        Asked::Unknown => Choice::Open,
-    }
-}
-
-pub fn choice_by(lock: u8, code: u8) -> Choice
+pub fn choice_by(lock: u8, code: u8) -> Option<Usage>
     ensures { result ≡ choice_by lock code }
 {
     if lock == 0 {
-        return Choice::Open;
+        return None;
     }
-    chosen_by(usage_of(code))
+    usage_of(code)
 }
 
 // The record that four bytes name, whether or not they are one.
@@ -109,12 +96,12 @@ fn named_by(bytes: [u8; 4]) -> CardRecord
 }
 
 // The record of four bytes; any others hold none.
-pub fn decode(bytes: [u8; 4]) -> Found
+pub fn decode(bytes: [u8; 4]) -> Option<CardRecord>
     ensures { result ≡ found_in bytes }
 {
     if (bytes[0] < 2) & is_choice(bytes[1], bytes[2]) & (bytes[3] == 0) {
-        Found::Card(named_by(bytes))
+        Some(named_by(bytes))
     } else {
-        Found::Nothing
+        None
     }
 }

@@ -23,31 +23,11 @@ pub enum Usage {
     Single,
 }
 
-// Open to a choice, or locked for good.
-#[derive(Clone, Copy)]
-pub enum Choice {
-    Open,
-    Locked(Usage),
-}
-
+// The choice of a type is made once and then locked for good; a card without one is open to it.
 #[derive(Clone, Copy)]
 pub struct CardRecord {
     pub edition: Edition,
-    pub choice: Choice,
-}
-
-// What a type byte asks for.
-#[derive(Clone, Copy)]
-pub enum Asked {
-    For(Usage),
-    Unknown,
-}
-
-// What four bytes hold: a card's record, or they are none.
-#[derive(Clone, Copy)]
-pub enum Found {
-    Card(CardRecord),
-    Nothing,
+    pub choice: Option<Usage>,
 }
 
 // A card of the old edition, which knows no choice.
@@ -56,19 +36,20 @@ pub fn old_card() -> CardRecord
 {
     CardRecord {
         edition: Edition::Old,
-        choice: Choice::Open,
+        choice: None,
     }
 }
 
-pub fn usage_of(code: u8) -> Asked
+// The type that a byte asks for; none for a byte that is no type.
+pub fn usage_of(code: u8) -> Option<Usage>
     ensures { result ≡ usage_of code }
 {
     match code {
-        0x00 => Asked::For(Usage::Double),
-        0x40 => Asked::For(Usage::Shortened),
-        0x20 => Asked::For(Usage::Random),
-        0x60 => Asked::For(Usage::Single),
-        _ => Asked::Unknown,
+        0x00 => Some(Usage::Double),
+        0x40 => Some(Usage::Shortened),
+        0x20 => Some(Usage::Random),
+        0x60 => Some(Usage::Single),
+        _ => None,
     }
 }
 

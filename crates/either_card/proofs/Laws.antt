@@ -1,5 +1,6 @@
 -- The ways of a frame, and that an old card gets the old answers.
 -- Assumes nothing.
+use Rattle.std.proofs.Common.{None, Option, Some}
 use mathlib.Core.Path.{◌≡◌, refl, sym, ◌∙◌, ap}
 use mathlib.Core.Bool.{Bool, true, false, not, cond, ◌&&◌, ◌||◌, false≢true}
 use mathlib.Core.List.{List, [], ◌∷◌}
@@ -16,10 +17,8 @@ use Rattle.access.specs.declared.bits.AccessBytes.{AccessBytes}
 use Rattle.access.specs.declared.rights.Letter.{Letter}
 use Rattle.access.specs.declared.rights.Operation.TheVariants as Operation
 use Rattle.session.specs.Session.{in_sector}
-use Rattle.session.specs.declared.Auth.TheVariants.{Nobody, As}
-use Rattle.session.specs.declared.Auth.{Auth}
-use Rattle.session.specs.declared.Register.{Register}
-use Rattle.session.specs.declared.Register.TheVariants.{Empty, Full}
+use Rattle.session.specs.Session.{Auth}
+use Rattle.session.specs.Session.{Register}
 use Rattle.session.specs.declared.Session.{Session}
 use Rattle.session.specs.declared.Stage.{Stage}
 use Rattle.session.specs.declared.Stage.TheVariants.{Idle, WriteWaits, ValueWaits}
@@ -33,22 +32,20 @@ use Rattle.judge.specs.declared.Act.{Act}
 use Rattle.judge.specs.declared.Act.TheVariants.{Refused, Shown}
 use Rattle.card.specs.Effects.{number_of, refused_sign, sign_of, reply_of, session_of}
 use Rattle.card.specs.Step.{answered, refusal_of, answer_of, image_after}
-use Rattle.card.specs.declared.Answer.{Answer}
+use Rattle.card.specs.Answers.{Answer}
 use Rattle.card.specs.declared.Sign.{Sign}
 use Rattle.card.specs.declared.Sign.TheVariants.{Ack, Nak, Data, Nothing}
 use Rattle.card.proofs.Short.{short_answer}
 use Rattle.edition.specs.Edition.{usage_of, wrong_size}
 use Rattle.edition.specs.declared.Edition.{Edition}
 use Rattle.edition.specs.declared.Edition.TheVariants.{Old, Ev1}
-use Rattle.edition.specs.declared.Choice.{Choice}
-use Rattle.edition.specs.declared.Choice.TheVariants.{Open, Locked}
-use Rattle.edition.specs.declared.Asked.{Asked}
-use Rattle.edition.specs.declared.Asked.TheVariants.{For, Unknown}
+use Rattle.edition.specs.Edition.{Choice}
 use Rattle.edition.specs.declared.CardRecord.{CardRecord}
 use Rattle.either_card.specs.Nak.{value_of, nak_of}
 use Rattle.either_card.specs.Personal.{is_personal, read_zero, chosen, choosing, acknowledged_sign, acknowledged, locked_with}
 use Rattle.either_card.specs.Either.{personal, card_act_of, given_for, card_answer_of, card_image_after}
 use Rattle.either_card.specs.Code.{sector_refusal, zero_refusal, read_refusal, given_of, acknowledged_with}
+use Rattle.edition.specs.declared.Usage.{Usage}
 
 pub read_command : (w : Stage) → w ≡ Idle → command_of w read_zero ≡ Read (block_at 0)
 unfolding command_of first_of two_bytes_of byte_in
@@ -57,7 +54,7 @@ read_command w e = rw e
 -- what a Read of block 0 is refused with on a 4K card
 module _ (image : List ℕ) (size : length image ≡ 4096) where
   sector_number : (x : AccessBytes) (t : Sector) (l : Letter)
-      → number_of (ruled (first (check 5 (is_blocked x) ∷ check 6 false ∷ check 7 (no_right x (As t l) Operation.Read (block_at 0)) ∷ [])) (shown_of image (block_at 0))) ≡ sector_refusal x l
+      → number_of (ruled (first (check 5 (is_blocked x) ∷ check 6 false ∷ check 7 (no_right x (Some (t, l)) Operation.Read (block_at 0)) ∷ [])) (shown_of image (block_at 0))) ≡ sector_refusal x l
   unfolding first ruled number_of shown_of trailer_of sector_of is_trailer group_of group_at no_right has_right sector_refusal
   sector_number x t l = go (is_blocked x) (right_of l Operation.Read false (group_bits x First) (group_bits x Trailer))
     where
@@ -69,14 +66,14 @@ module _ (image : List ℕ) (size : length image ≡ 4096) where
 
   zero_number : (auth : Auth) → number_of (ruled (first (memory_checks image auth Operation.Read (block_at 0))) (shown_of image (block_at 0))) ≡ zero_refusal image auth
   unfolding memory_checks first ruled number_of no_block has_block blocks_of blocks_in sectors_of other_sector in_sector sector_of is_forbidden zero_refusal
-  zero_number Nobody = rw size
-  zero_number (As t l) = rw size (go (eqb t.0 0))
+  zero_number None = rw size
+  zero_number (Some (t, l)) = rw size (go (eqb t.0 0))
     where
       x : AccessBytes
       x = access_of image (block_at 0)
 
       go : (y : Bool)
-          → number_of (ruled (cond (not y) (refuses 3) (first (check 5 (is_blocked x) ∷ check 6 false ∷ check 7 (no_right x (As t l) Operation.Read (block_at 0)) ∷ []))) (shown_of image (block_at 0)))
+          → number_of (ruled (cond (not y) (refuses 3) (first (check 5 (is_blocked x) ∷ check 6 false ∷ check 7 (no_right x (Some (t, l)) Operation.Read (block_at 0)) ∷ []))) (shown_of image (block_at 0)))
           ≡ cond y (sector_refusal x l) 3
       go true = sector_number x t l
       go false = refl
@@ -118,10 +115,10 @@ value_small Ev1 r Nothing n = omega arith
 value_small Ev1 r Nak n = go r (eqb n 14)
   where
     go : (r : Register) (t : Bool) → value_of r t < 6
-    go Empty true = omega arith
-    go Empty false = omega arith
-    go (Full v a) true = omega arith
-    go (Full v a) false = omega arith
+    go None true = omega arith
+    go None false = omega arith
+    go (Some (v, a)) true = omega arith
+    go (Some (v, a)) false = omega arith
 
 -- of a refusal there is nothing to acknowledge
 refused_kept_lem : (t : Bool) → acknowledged_sign (cond t Nothing Nak) ≡ cond t Nothing Nak
@@ -174,15 +171,15 @@ module _ (image : List ℕ) (k : CardRecord) (s : Session) (frame : List ℕ) wh
 
   -- past it: a 40h, or any other frame
   module _ (fits : wrong_size k.edition (length image) ≡ false) where
-    choosing_short : (x : Choice) (u : Asked) (n : ℕ) → choosing x u n ≡ shortened s.auth (choosing x u n)
+    choosing_short : (x : Choice) (u : Option Usage) (n : ℕ) → choosing x u n ≡ shortened s.auth (choosing x u n)
     unfolding choosing shortened
     choosing_short x u n = go (eqb n 0) x u
       where
-        go : (t : Bool) (x : Choice) (u : Asked) → cond t (chosen x u) (Refused n) ≡ shortened s.auth (cond t (chosen x u) (Refused n))
+        go : (t : Bool) (x : Choice) (u : Option Usage) → cond t (chosen x u) (Refused n) ≡ shortened s.auth (cond t (chosen x u) (Refused n))
         go false x u = refl
-        go true x Unknown = refl
-        go true Open (For u) = refl
-        go true (Locked v) (For u) = refl
+        go true x None = refl
+        go true None (Some u) = refl
+        go true (Some v) (Some u) = refl
 
     pub personal_act : personal k s frame ≡ true → (n : ℕ) → n ≡ read_refusal image s → (code : ℕ) → code ≡ byte_in frame 1
         → choosing k.choice (usage_of code) n ≡ shortened s.auth (card_act_of image k s frame)

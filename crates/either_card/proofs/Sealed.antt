@@ -1,12 +1,12 @@
 -- The ways of a frame with its checksum.
 -- Assumes nothing.
-use mathlib.Core.Path.{◌≡◌, refl, sym, ◌∙◌, ap}
-use mathlib.Core.Bool.{Bool, true, false, not, cond}
+use Rattle.std.proofs.Common.{Option}
+use mathlib.Core.Path.{◌≡◌, refl, sym, ap}
+use mathlib.Core.Bool.{Bool, true, false, cond}
 use mathlib.Core.List.{List, [], ◌∷◌, ◌++◌}
 use Prim.Native.Nat.{ℕ}
 use lib.Dec.{eqb}
 use lib.ListN.{length}
-use borrow.Author.Tests.{not-true, not-false}
 use Rattle.session.specs.declared.Session.{Session}
 use Rattle.judge.specs.First.{Outcome, passes, refuses, check, first, ruled}
 use Rattle.judge.specs.Checks.{no_card, incoherent, frame_checks}
@@ -17,8 +17,7 @@ use Rattle.card.specs.Effects.{number_of, image_of}
 use Rattle.card.specs.Step.{refusal_of}
 use Rattle.sealed.specs.Sealed.{inner_of, unsealed, sealed_act_of, sealed_answer_of, sealed_image_after}
 use Rattle.edition.specs.Edition.{usage_of, wrong_size}
-use Rattle.edition.specs.declared.Asked.{Asked}
-use Rattle.edition.specs.declared.Choice.{Choice}
+use Rattle.edition.specs.Edition.{Choice}
 use Rattle.edition.specs.declared.Edition.TheVariants.{Old}
 use Rattle.edition.specs.declared.CardRecord.{CardRecord}
 use Rattle.frame.specs.Command.{byte_in, command_of}
@@ -26,6 +25,7 @@ use Rattle.either_card.specs.Personal.{is_personal, read_zero, choosing, chosen}
 use Rattle.either_card.specs.Either.{personal, card_act_of, sealed_card_act_of, given_for, card_answer_of, card_image_after, sealed_card_of, sealed_card_answer_of, sealed_card_image_after}
 use Rattle.either_card.specs.Code.{given_of}
 use Rattle.either_card.proofs.Laws.{refusal_given}
+use Rattle.edition.specs.declared.Usage.{Usage}
 
 module _ (image : List ℕ) (k : CardRecord) (s : Session) (frame : List ℕ) where
   -- past 14 the act is the inner bytes' own
@@ -34,7 +34,7 @@ module _ (image : List ℕ) (k : CardRecord) (s : Session) (frame : List ℕ) wh
   inner_card_act e = rw e (outer (wrong_size k.edition (length image)))
     where
       -- 11 and 12 stand before a 40h too
-      go : (x y p : Bool) (choice : Choice) (asked : Asked) (read act : Act)
+      go : (x y p : Bool) (choice : Choice) (asked : Option Usage) (read act : Act)
           → ruled (first (check 11 x ∷ check 12 y ∷ check 14 false ∷ []))
           (cond p (cond (eqb (number_of (ruled (first (check 11 x ∷ check 12 y ∷ [])) read)) 0) (chosen choice asked) (Refused (number_of (ruled (first (check 11 x ∷ check 12 y ∷ [])) read))))
           (ruled (first (check 11 x ∷ check 12 y ∷ [])) act))
@@ -75,21 +75,20 @@ module _ (image : List ℕ) (k : CardRecord) (s : Session) (frame : List ℕ) wh
       go false false true f = let q : 12 ≡ n = ap number f in rw (← q) (refl, refl)
       go false false false f = let q : 14 ≡ n = ap number f in rw (← q) (refl, refl)
 
-  -- the code's two ways, in the words of its test
-  module _ (t : Bool) (asked : t ≡ not (unsealed frame)) where
-    pub with_seal_lem : t ≡ true
-        → (card_answer_of image k s (inner_of frame) ≡ given_for image k s (inner_of frame) (sealed_card_act_of image k s frame))
-        × (card_image_after image k s (inner_of frame) ≡ sealed_card_image_after image k s frame)
-    unfolding card_answer_of card_image_after sealed_card_image_after
-    with_seal_lem e = rw (inner_card_act (not-true (unsealed frame) (sym asked ∙ e))) (refl, refl)
+  -- the code's two ways
+  pub with_seal_lem : unsealed frame ≡ false
+      → (card_answer_of image k s (inner_of frame) ≡ given_for image k s (inner_of frame) (sealed_card_act_of image k s frame))
+      × (card_image_after image k s (inner_of frame) ≡ sealed_card_image_after image k s frame)
+  unfolding card_answer_of card_image_after sealed_card_image_after
+  with_seal_lem e = rw (inner_card_act e) (refl, refl)
 
-    pub without_seal : (n : ℕ) → t ≡ false
-        → cond (wrong_size k.edition (length image)) (refuses 11) (first (frame_checks image s ++ (check 14 true ∷ []))) ≡ refuses n
-        → (given_of k s.register (refusal_of n) ≡ given_for image k s (inner_of frame) (sealed_card_act_of image k s frame)) × (image ≡ sealed_card_image_after image k s frame)
-    unfolding sealed_card_image_after image_of
-    without_seal n e f =
-        let r = refused_card_act n (not-false (unsealed frame) (sym asked ∙ e)) f in
-        (rw r.0 (sym (refusal_given image k s (inner_of frame) n r.1)), rw r.0)
+  pub without_seal : (n : ℕ) → unsealed frame ≡ true
+      → cond (wrong_size k.edition (length image)) (refuses 11) (first (frame_checks image s ++ (check 14 true ∷ []))) ≡ refuses n
+      → (given_of k s.register (refusal_of n) ≡ given_for image k s (inner_of frame) (sealed_card_act_of image k s frame)) × (image ≡ sealed_card_image_after image k s frame)
+  unfolding sealed_card_image_after image_of
+  without_seal n e f =
+      let r = refused_card_act n e f in
+      (rw r.0 (sym (refusal_given image k s (inner_of frame) n r.1)), rw r.0)
 
 -- a card of the old edition gets the old answer
 pub old_sealed : (image : List ℕ) (k : CardRecord) (s : Session) (frame : List ℕ) → k.edition ≡ Old

@@ -1,5 +1,6 @@
 -- A session that 12 refuses: what every frame gets.
 -- Assumes nothing.
+use Rattle.std.proofs.Common.{Option}
 use mathlib.Core.Path.{◌≡◌, refl, ◌∙◌}
 use mathlib.Core.Bool.{Bool, true, false, cond}
 use mathlib.Core.List.{List, [], ◌∷◌}
@@ -8,7 +9,7 @@ use lib.Dec.{eqb}
 use lib.ListN.{length}
 use Rattle.layout.specs.Layout.{sectors_of}
 use Rattle.session.specs.Session.{fresh_of}
-use Rattle.session.specs.declared.Register.{Register}
+use Rattle.session.specs.Session.{Register}
 use Rattle.session.specs.declared.Session.{Session}
 use Rattle.frame.specs.Command.{byte_in, command_of}
 use Rattle.judge.specs.First.{check, first, ruled}
@@ -24,14 +25,14 @@ use Rattle.sealed.specs.Sealed.{inner_of, unsealed}
 use Rattle.edition.specs.Edition.{usage_of, wrong_size}
 use Rattle.edition.specs.declared.Edition.{Edition}
 use Rattle.edition.specs.declared.Edition.TheVariants.{Old, Ev1}
-use Rattle.edition.specs.declared.Choice.{Choice}
-use Rattle.edition.specs.declared.Asked.{Asked}
+use Rattle.edition.specs.Edition.{Choice}
 use Rattle.edition.specs.declared.CardRecord.{CardRecord}
 use Rattle.either_card.specs.Nak.{nak_of}
 use Rattle.either_card.specs.Personal.{read_zero, chosen, choosing}
 use Rattle.either_card.specs.Either.{personal, card_act_of, sealed_card_act_of, given_for, card_answer_of, card_image_after, sealed_card_of, sealed_card_answer_of, sealed_card_image_after, card_no_session_of}
 use Rattle.either_card.specs.Code.{given_of}
 use Rattle.either_card.proofs.Laws.{refusal_given}
+use Rattle.edition.specs.declared.Usage.{Usage}
 
 silent_value : (e : Edition) (r : Register) (n : ℕ) → nak_of e r Nothing n ≡ 0
 silent_value Old r n = refl
@@ -52,7 +53,7 @@ module _ (image : List ℕ) (k : CardRecord) (s : Session) (stray : incoherent i
       (go (wrong_size k.edition (length image)) (no_card image) (personal k s frame) k.choice (usage_of (byte_in frame 1))
       (commanded_of image s (command_of s.stage read_zero) read_zero) (commanded_of image s (command_of s.stage frame) frame))
     where
-      go : (w x p : Bool) (choice : Choice) (asked : Asked) (read act : Act)
+      go : (w x p : Bool) (choice : Choice) (asked : Option Usage) (read act : Act)
           → cond w (Refused 11)
           (cond p (cond (eqb (number_of (ruled (first (check 11 x ∷ check 12 true ∷ [])) read)) 0) (chosen choice asked) (Refused (number_of (ruled (first (check 11 x ∷ check 12 true ∷ [])) read))))
           (ruled (first (check 11 x ∷ check 12 true ∷ [])) act))

@@ -14,8 +14,7 @@ use Rattle.edition.specs.Edition.{usage_of, wrong_size}
 use Rattle.edition.specs.declared.CardRecord.{CardRecord}
 use Rattle.either_card.specs.Nak.{nak_of}
 use Rattle.either_card.specs.Personal.{is_personal, read_zero, choosing, acknowledged, locked_with}
-use Rattle.either_card.specs.declared.CardAnswer.{CardAnswer}
-use Rattle.either_card.specs.declared.sealing.SealedCardAnswer.{SealedCardAnswer}
+use Rattle.either_card.specs.Answers.{CardAnswer}
 
 -- 40h on this card
 abbrev pub personal : CardRecord → Session → List ℕ → Bool
@@ -50,10 +49,10 @@ unfoldable pub card_image_after : List ℕ → CardRecord → Session → List �
 card_image_after image k s frame = image_of image s.auth (card_act_of image k s frame) frame
 
 -- with its checksum: the inner bytes are the frame, and a Read's reply gets its own
-unfoldable pub sealed_card_of : CardAnswer → SealedCardAnswer
+unfoldable pub sealed_card_of : CardAnswer → CardAnswer
 sealed_card_of a = record { answer = sealed_of a.answer; nak = a.nak; card = a.card }
 
-unfoldable pub sealed_card_answer_of : List ℕ → CardRecord → Session → List ℕ → SealedCardAnswer
+unfoldable pub sealed_card_answer_of : List ℕ → CardRecord → Session → List ℕ → CardAnswer
 sealed_card_answer_of image k s frame = sealed_card_of (given_for image k s (inner_of frame) (sealed_card_act_of image k s frame))
 
 unfoldable pub sealed_card_image_after : List ℕ → CardRecord → Session → List ℕ → List ℕ

@@ -1,5 +1,5 @@
 -- Personalize UID Usage, 40h and a type: a command of the EV1 alone.
-use Rattle.std.specs.Prelude.{Bool, true, false, cond, ◌&&◌, List, [], ◌∷◌, ℕ, eqb, length}
+use Rattle.std.specs.Prelude.{Bool, true, false, cond, ◌&&◌, List, [], ◌∷◌, ℕ, eqb, length, None, Option, Some}
 use Rattle.layout.specs.Layout.{block_at}
 use Rattle.session.specs.Session.{is_idle}
 use Rattle.session.specs.declared.Stage.{Stage}
@@ -7,16 +7,14 @@ use Rattle.frame.specs.Command.{byte_in}
 use Rattle.judge.specs.declared.Act.{Act}
 use Rattle.judge.specs.declared.Act.TheVariants.{Refused, Shown}
 use Rattle.card.specs.Trailer.{zeros}
-use Rattle.card.specs.declared.Answer.{Answer}
+use Rattle.card.specs.Answers.{Answer}
 use Rattle.card.specs.declared.Sign.{Sign}
 use Rattle.card.specs.declared.Sign.TheVariants.{Ack, Nak, Data, Nothing}
 use Rattle.edition.specs.declared.Edition.{Edition}
 use Rattle.edition.specs.declared.Edition.TheVariants.{Old, Ev1}
-use Rattle.edition.specs.declared.Choice.{Choice}
-use Rattle.edition.specs.declared.Choice.TheVariants.{Open, Locked}
-use Rattle.edition.specs.declared.Asked.{Asked}
-use Rattle.edition.specs.declared.Asked.TheVariants.{For, Unknown}
+use Rattle.edition.specs.Edition.{Choice}
 use Rattle.edition.specs.declared.CardRecord.{CardRecord}
+use Rattle.edition.specs.declared.Usage.{Usage}
 
 -- two bytes, 40h first, where no second frame is awaited
 abbrev pub known : Edition → Bool
@@ -31,13 +29,13 @@ abbrev pub read_zero : List ℕ
 read_zero = 0x30 ∷ 0x00 ∷ []
 
 -- 17, an unknown type; 18, the choice is locked; else image and session are left as by that Read
-abbrev pub chosen : Choice → Asked → Act
-chosen choice Unknown = Refused 17
-chosen (Locked v) (For u) = Refused 18
-chosen Open (For u) = Shown (block_at 0)
+abbrev pub chosen : Choice → Option Usage → Act
+chosen choice None = Refused 17
+chosen (Some v) (Some u) = Refused 18
+chosen None (Some u) = Shown (block_at 0)
 
 -- it is refused with what the Read is refused with, and then with 17 or 18
-unfoldable pub choosing : Choice → Asked → ℕ → Act
+unfoldable pub choosing : Choice → Option Usage → ℕ → Act
 choosing choice asked number = cond (eqb number 0) (chosen choice asked) (Refused number)
 
 -- an ACK for the data of the Read
@@ -51,6 +49,6 @@ unfoldable pub acknowledged : Answer → Answer
 acknowledged a = record { number = a.number; sign = acknowledged_sign a.sign; reply = zeros; session = a.session }
 
 -- the record afterwards: an accepted one locks the choice for good
-abbrev pub locked_with : CardRecord → Asked → CardRecord
-locked_with k (For u) = record { edition = k.edition; choice = Locked u }
-locked_with k Unknown = k
+abbrev pub locked_with : CardRecord → Option Usage → CardRecord
+locked_with k (Some u) = record { edition = k.edition; choice = Some u }
+locked_with k None = k

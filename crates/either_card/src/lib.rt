@@ -14,29 +14,26 @@ mod sealing;
 
 use card::Answer;
 use edition::CardRecord;
-use judge::Act;
+use judge::{Act, Refusal};
 pub use sealing::{SealedCardAnswer, sealed_card, sealed_no_session, sealed_step};
-use session::{Register, Session};
+use session::Session;
 
 // The answer, the value of its NAK (0 where there is none) and the record afterwards.
 #[derive(Clone, Copy)]
-pub struct CardAnswer {
-    pub answer: Answer,
+pub struct CardAnswer<R = [u8; 16]> {
+    pub answer: Answer<R>,
     pub nak: u8,
     pub card: CardRecord,
 }
 
 // A bare answer with the value of its NAK; the record is kept.
-fn given(k: CardRecord, register: Register, a: Answer) -> CardAnswer
+fn given(k: CardRecord, register: Option<(u32, u8)>, a: Answer) -> CardAnswer
     ensures { result ≡ given_of k register a }
 {
-    let edition = k.edition;
-    let sign = a.sign;
-    let number = a.number;
-    let value = nak::nak_of(edition, register, sign, number);
+    let nak = nak::nak_of(k.edition, register, a.sign, a.number);
     CardAnswer {
         answer: a,
-        nak: value,
+        nak,
         card: k,
     }
 }
@@ -45,22 +42,18 @@ fn given(k: CardRecord, register: Register, a: Answer) -> CardAnswer
 pub fn refusal(k: CardRecord, s: Session, n: u8) -> CardAnswer
     ensures { result ≡ given_of k s.register (refusal_of n) }
 {
-    let register = s.register;
-    given(k, register, card::refusal(n))
+    given(k, s.register, card::refusal(n))
 }
 
 // What a frame does to a card with this record.
 pub fn judge(image: &[u8], k: CardRecord, s: Session, frame: &[u8]) -> Act
     ensures { result ≡ shortened s.auth (card_act_of image.now k s frame.now) }
 {
-    let edition = k.edition;
-    let choice = k.choice;
-    let stage = s.stage;
-    if edition::is_wrong_size(edition, image.len()) {
-        Act::Refused(11)
-    } else if personal::is_personal(edition, stage, frame) {
+    if edition::is_wrong_size(k.edition, image.len()) {
+        judge::refused(Refusal::NoCard)
+    } else if personal::is_personal(k.edition, s.stage, frame) {
         personal::choosing(
-            choice,
+            k.choice,
             frame::byte(frame, 1),
             personal::refusal_of(image, s),
         )
@@ -74,17 +67,15 @@ pub fn enact(image: &mut [u8], k: CardRecord, s: Session, act: Act, frame: &[u8]
     ensures value { result ≡ given_for image.old k s frame.now act }
     ensures image_after { image.new ≡ image_of image.old s.auth act frame.now }
 {
-    let edition = k.edition;
-    let stage = s.stage;
-    let register = s.register;
-    let a = given(k, register, card::enact(image, s, act, frame));
-    if personal::is_personal(edition, stage, frame) {
+    let a = given(k, s.register, card::enact(image, s, act, frame));
+    if personal::is_personal(k.edition, s.stage, frame) {
         return personal::acknowledged(a, frame::byte(frame, 1));
     }
     a
 }
 
 // Any image, any record, any session, any frame: the answer, and the image as it is afterwards.
+// Record and session are parameters of their own, and no struct: callers keep each in lent bytes of its own, and the promise of this call names them so.
 pub fn step(image: &mut [u8], k: CardRecord, s: Session, frame: &[u8]) -> CardAnswer
     ensures value { result ≡ card_answer_of image.old k s frame.now }
     ensures image_after { image.new ≡ card_image_after image.old k s frame.now }
@@ -109,8 +100,7 @@ pub fn field_reset(k: CardRecord) -> CardAnswer
 pub fn no_session(k: CardRecord, bytes: usize) -> CardAnswer
     ensures { result ≡ card_no_session_of k bytes }
 {
-    let edition = k.edition;
-    let answer = if edition::is_wrong_size(edition, bytes) {
+    let answer = if edition::is_wrong_size(k.edition, bytes) {
         card::refusal(11)
     } else {
         card::no_session(bytes)

@@ -4,18 +4,19 @@ ghost use Rattle.either_card.specs.Nak.{value_of, nak_of};
 
 use card::Sign;
 use edition::Edition;
-use session::Register;
 
-fn value_of(register: Register, unsealed: bool) -> u8
+fn value_of(register: Option<(u32, u8)>, unsealed: bool) -> u8
     ensures { result ≡ value_of register unsealed }
 {
-    match register {
-        Register::Full(_, _) => { if unsealed { 1 } else { 0 } }
-        Register::Empty => { if unsealed { 5 } else { 4 } }
+    match (register, unsealed) {
+        (Some(_), false) => 0,
+        (Some(_), true) => 1,
+        (None, false) => 4,
+        (None, true) => 5,
     }
 }
 
-pub(crate) fn nak_of(edition: Edition, register: Register, sign: Sign, number: u8) -> u8
+pub(crate) fn nak_of(edition: Edition, register: Option<(u32, u8)>, sign: Sign, number: u8) -> u8
     ensures { result ≡ nak_of edition register sign number }
 {
     match edition {

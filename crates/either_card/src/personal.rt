@@ -2,15 +2,15 @@
 ghost use Rattle.std.specs.Prelude.{◌≡◌, cond, eqb};
 ghost use Rattle.edition.specs.Edition.{usage_of};
 ghost use Rattle.either_card.specs.Personal.{known, is_personal, chosen, choosing, acknowledged_sign, locked_with};
-ghost use Rattle.either_card.specs.Code.{sector_refusal, zero_refusal, read_refusal, acknowledged_with};
+ghost use Rattle.either_card.specs.Code.{number_told, sector_refusal, zero_refusal, read_refusal, acknowledged_with};
 
 use crate::CardAnswer;
-use access::{AccessBytes, Bits, Letter, Operation};
+use access::{AccessBytes, Letter, Operation};
 use card::{Answer, Sign};
-use edition::{Asked, CardRecord, Choice, Edition};
-use judge::Act;
+use edition::{CardRecord, Edition, Usage};
+use judge::{Act, Refusal};
 use layout::{Block, Group, Sector};
-use session::{Auth, Session, Stage};
+use session::{Session, Stage};
 
 fn is_known(edition: Edition) -> bool
     ensures { result ≡ known edition }
@@ -31,77 +31,71 @@ pub(crate) fn is_personal(edition: Edition, stage: Stage, frame: &[u8]) -> bool
         & (frame::byte(frame, 0) == 0x40)
 }
 
-// Checks 5 and 7 of a Read of block 0, by the access bytes of its sector; 0 where it passes.
-fn sector_refusal(x: AccessBytes, l: Letter) -> u8
-    ensures { result ≡ sector_refusal x l }
+// Checks 5 and 7 of a Read of block 0, by the access bytes of its sector.
+fn sector_refusal(x: AccessBytes, l: Letter) -> Result<(), Refusal>
+    ensures { number_told result ≡ sector_refusal x l }
 {
-    let Bits::Are(n) = access::bits_of(x, Group::First) else {
-        return 5;
+    let Some(n) = access::bits_of(x, Group::First) else {
+        return Err(Refusal::Blocked);
     };
-    let Bits::Are(m) = access::bits_of(x, Group::Trailer) else {
-        return 5;
+    let Some(m) = access::bits_of(x, Group::Trailer) else {
+        return Err(Refusal::Blocked);
     };
     if access::is_mute(l, m) {
-        return 7;
+        return Err(Refusal::NoRight);
     }
     if access::may(l, Operation::Read, n) {
-        return 0;
+        return Ok(());
     }
-    7
+    Err(Refusal::NoRight)
 }
 
 // Check 3, then those.
 #[tactic(auto, unfolding(crate::specs::Code::zero_refusal, layout::specs::Layout::sector_of))]
-fn zero_refusal(image: &[u8], auth: Auth) -> u8
-    ensures { result ≡ zero_refusal image.now auth }
+fn zero_refusal(image: &[u8], auth: Option<(Sector, Letter)>) -> Result<(), Refusal>
+    ensures { number_told result ≡ zero_refusal image.now auth }
 {
     match auth {
-        Auth::Nobody => 3,
-        Auth::As(t, l) => {
-            if t.0 == 0 {
-                let trailer = memory::content(image, layout::trailer_of(Sector(0)));
-                sector_refusal(access::access_bytes_of(trailer), l)
-            } else {
-                3
-            }
+        Some((Sector(0), l)) => {
+            let trailer = memory::content(image, layout::trailer_of(Sector(0)));
+            sector_refusal(access::access_bytes_of(trailer), l)
         }
+        _ => Err(Refusal::OtherSector),
     }
 }
 
-// What a Read of block 0 is refused with on an image of a card, where no second frame is awaited; 0 where it is not.
+// What a Read of block 0 is refused with on an image of a card, where no second frame is awaited.
 #[tactic(auto, unfolding(crate::specs::Code::read_refusal, judge::specs::Checks::incoherent))]
-pub(crate) fn refusal_of(image: &[u8], s: Session) -> u8
-    ensures { result ≡ read_refusal image.now s }
+pub(crate) fn refusal_of(image: &[u8], s: Session) -> Result<(), Refusal>
+    ensures { number_told result ≡ read_refusal image.now s }
 {
     let auth = s.auth;
     let coherent = session::is_coherent(image.len(), s);
     if coherent {
         return zero_refusal(image, auth);
     }
-    12
+    Err(Refusal::Incoherent)
 }
 
 // 17, then 18, then what an accepted one does.
-fn chosen(choice: Choice, code: u8) -> Act
+#[tactic(auto, unfolding(crate::specs::Personal::chosen))]
+fn chosen(choice: Option<Usage>, code: u8) -> Act
     ensures { result ≡ chosen choice (usage_of code) }
 {
-    match edition::usage_of(code) {
-        Asked::Unknown => Act::Refused(17),
-        Asked::For(_) => match choice {
-            Choice::Open => Act::Shown(Block(0)),
-            Choice::Locked(_) => Act::Refused(18),
-        },
+    match (edition::usage_of(code), choice) {
+        (None, _) => judge::refused(Refusal::UnknownType),
+        (Some(_), None) => Act::Shown(Block(0)),
+        (Some(_), Some(_)) => judge::refused(Refusal::AlreadyLocked),
     }
 }
 
 // What the Read of block 0 is refused with, or the choice.
-pub(crate) fn choosing(choice: Choice, code: u8, n: u8) -> Act
-    ensures { result ≡ choosing choice (usage_of code) n }
+pub(crate) fn choosing(choice: Option<Usage>, code: u8, read: Result<(), Refusal>) -> Act
+    ensures { result ≡ choosing choice (usage_of code) (number_told read) }
 {
-    if n == 0 {
-        chosen(choice, code)
-    } else {
-        Act::Refused(n)
+    match read {
+        Ok(()) => chosen(choice, code),
+        Err(r) => judge::refused(r),
     }
 }
 
@@ -117,16 +111,13 @@ fn acknowledged_sign(sign: Sign) -> Sign
 }
 
 // The choice is locked for good.
+#[tactic(auto, unfolding(crate::specs::Personal::locked_with))]
 fn locked_with(k: CardRecord, code: u8) -> CardRecord
     ensures { result ≡ locked_with k (usage_of code) }
 {
-    let edition = k.edition;
     match edition::usage_of(code) {
-        Asked::For(u) => CardRecord {
-            edition,
-            choice: Choice::Locked(u),
-        },
-        Asked::Unknown => k,
+        None => k,
+        choice => CardRecord { choice, ..k },
     }
 }
 
@@ -144,22 +135,15 @@ fn next_record(k: CardRecord, n: u8, code: u8) -> CardRecord
 pub(crate) fn acknowledged(a: CardAnswer, code: u8) -> CardAnswer
     ensures { result ≡ acknowledged_with a code }
 {
-    let bare = a.answer;
-    let nak = a.nak;
-    let k = a.card;
-    let number = bare.number;
-    let session = bare.session;
-    let told = bare.sign;
-    let sign = acknowledged_sign(told);
-    let card = next_record(k, number, code);
+    let sign = acknowledged_sign(a.answer.sign);
+    let card = next_record(a.card, a.answer.number, code);
     CardAnswer {
         answer: Answer {
-            number,
             sign,
             reply: [0u8; 16],
-            session,
+            ..a.answer
         },
-        nak,
         card,
+        ..a
     }
 }

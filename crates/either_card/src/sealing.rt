@@ -2,39 +2,34 @@
 ghost use Rattle.std.specs.Prelude.{◌≡◌, true, cond, [], ◌∷◌, ◌++◌, length};
 ghost use Rattle.judge.specs.First.{check, first, refuses};
 ghost use Rattle.judge.specs.Checks.{frame_checks};
+ghost use Rattle.judge.specs.Code.{refusal_number};
 ghost use Rattle.edition.specs.Edition.{wrong_size};
 ghost use Rattle.either_card.specs.Either.{sealed_card_of, sealed_card_answer_of, sealed_card_image_after, card_no_session_of};
 
 use crate::{CardAnswer, no_session, refusal, step};
 use edition::CardRecord;
-use sealed::SealedAnswer;
+use judge::Refusal;
 use session::Session;
 
-// The answer, the value of its NAK (0 where there is none) and the record afterwards.
-#[derive(Clone, Copy)]
-pub struct SealedCardAnswer {
-    pub answer: SealedAnswer,
-    pub nak: u8,
-    pub card: CardRecord,
-}
+// An answer whose reply has its checksum, or room for it; the value of its NAK and the record afterwards.
+pub type SealedCardAnswer = CardAnswer<[u8; 18]>;
 
 pub fn sealed_card(a: CardAnswer) -> SealedCardAnswer
     ensures { result ≡ sealed_card_of a }
 {
-    let bare = a.answer;
-    let nak = a.nak;
-    let card = a.card;
-    let answer = sealed::sealed(bare);
-    SealedCardAnswer { answer, nak, card }
+    CardAnswer {
+        answer: sealed::sealed(a.answer),
+        nak: a.nak,
+        card: a.card,
+    }
 }
 
 // The refusal of a frame whose checksum is wrong: an EV1's 11 comes before the card's own.
-fn first_refusal(k: CardRecord, image: &[u8], s: Session) -> u8
-    ensures { cond (wrong_size k.edition (length image.now)) (refuses 11) (first (frame_checks image.now s ++ (check 14 true ∷ []))) ≡ refuses result }
+fn first_refusal(k: CardRecord, image: &[u8], s: Session) -> Refusal
+    ensures { cond (wrong_size k.edition (length image.now)) (refuses 11) (first (frame_checks image.now s ++ (check 14 true ∷ []))) ≡ refuses (refusal_number result) }
 {
-    let edition = k.edition;
-    if edition::is_wrong_size(edition, image.len()) {
-        return 11;
+    if edition::is_wrong_size(k.edition, image.len()) {
+        return Refusal::NoCard;
     }
     sealed::first_refusal(image, s)
 }
@@ -44,11 +39,9 @@ pub fn sealed_step(image: &mut [u8], k: CardRecord, s: Session, frame: &[u8]) ->
     ensures value { result ≡ sealed_card_answer_of image.old k s frame.now }
     ensures image_after { image.new ≡ sealed_card_image_after image.old k s frame.now }
 {
-    let a = if sealed::is_sealed(frame) {
-        let end = frame.len() - 2;
-        step(image, k, s, &frame[..end])
-    } else {
-        refusal(k, s, first_refusal(k, &image[..], s))
+    let a = match sealed::inner(frame) {
+        Some(bare) => step(image, k, s, bare),
+        None => refusal(k, s, first_refusal(k, &image[..], s).number()),
     };
     sealed_card(a)
 }

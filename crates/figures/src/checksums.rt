@@ -2,11 +2,10 @@
 use crate::line;
 
 pub(crate) fn agrees(f: [u8; 22]) -> bool {
-    let n = f[0] as usize;
+    let n = usize::from(f[0]);
     let bytes = line::block(f, 1);
-    if n <= 16 {
-        let two = checksum::two(checksum::crc_a(&bytes[..n]));
-        return (two[0] == f[17]) & (two[1] == f[18]);
+    match bytes.get(..n) {
+        Some(counted) => checksum::two(checksum::crc_a(counted)) == [f[17], f[18]],
+        None => false,
     }
-    false
 }

@@ -9,41 +9,40 @@ mod play;
 mod rights;
 mod values;
 
-use play::{Figures, play};
+use play::play;
 use std::io;
 
 fn main(rt: HostRuntime) -> io::Result<()> {
-    play(&rt, "layout", "layout.txt", Figures::Layout)?;
-    play(
-        &rt,
-        "access_bytes",
-        "access_bytes.txt",
-        Figures::AccessBytes,
-    )?;
+    play(&rt, "layout", "layout.txt", 5, blocks::agrees)?;
+    play(&rt, "access_bytes", "access_bytes.txt", 7, bits::agrees)?;
     play(
         &rt,
         "access_format",
         "access_format.txt",
-        Figures::AccessFormat,
+        4,
+        bits::agrees_in_form,
     )?;
-    play(&rt, "rights_data", "rights_data.txt", Figures::RightsData)?;
+    play(
+        &rt,
+        "rights_data",
+        "rights_data.txt",
+        7,
+        rights::agrees_for_data,
+    )?;
     play(
         &rt,
         "rights_trailer",
         "rights_trailer.txt",
-        Figures::RightsTrailer,
+        8,
+        rights::agrees_for_trailer,
     )?;
-    play(
-        &rt,
-        "value_blocks",
-        "value_blocks.txt",
-        Figures::ValueBlocks,
-    )?;
+    play(&rt, "value_blocks", "value_blocks.txt", 21, values::agrees)?;
     play(
         &rt,
         "value_format",
         "value_format.txt",
-        Figures::ValueFormat,
+        22,
+        values::agrees_in_form,
     )?;
-    play(&rt, "checksums", "checksums.txt", Figures::Checksums)
+    play(&rt, "checksums", "checksums.txt", 19, checksums::agrees)
 }

@@ -1,8 +1,16 @@
 // Figures of the rights. In a line a key is the byte 0A or 0B, and each right is 1 or 0.
 ghost use Rattle.std.specs.Prelude.{◌≤◌};
 
-use access::{AccessBytes, Bits, Letter, Operation};
+use access::{AccessBytes, Letter, Operation};
 use layout::{Block, Group};
+
+// In the order of a line's rights.
+const OPERATIONS: [Operation; 4] = [
+    Operation::Read,
+    Operation::Write,
+    Operation::Increment,
+    Operation::Decrement,
+];
 
 fn letter_of(key: u8) -> Letter {
     if key == 0x0A {
@@ -52,14 +60,14 @@ pub(crate) fn agrees_for_data(f: [u8; 22]) -> bool {
     let g = layout::group_of(Block(f[1]));
     let letter = letter_of(f[2]);
     let wanted = f[0];
-    let Bits::Are(bits) = access::bits_of(access_bytes_for(g, wanted), g) else {
+    let Some(bits) = access::bits_of(access_bytes_for(g, wanted), g) else {
         return false;
     };
-    let read = access::may(letter, Operation::Read, bits) as u8;
-    let write = access::may(letter, Operation::Write, bits) as u8;
-    let increment = access::may(letter, Operation::Increment, bits) as u8;
-    let decrement = access::may(letter, Operation::Decrement, bits) as u8;
-    (bits == wanted) & (f[3] == read) & (f[4] == write) & (f[5] == increment) & (f[6] == decrement)
+    let rights = OPERATIONS
+        .iter()
+        .zip(&f[3..])
+        .all(|(o, right)| access::may(letter, *o, bits) as u8 == *right);
+    (bits == wanted) & rights
 }
 
 // A line: a trailer's bits, a key, and whether the key may read and write key A, then the access bits, then key B.

@@ -1,13 +1,9 @@
 // Figures of value blocks. In a line a value is its 32 bits, high byte first.
 use crate::line;
 use crate::line::word;
-use value::Decoded;
 
 fn holds(block: [u8; 16], bits: u32, address: u8) -> bool {
-    match value::decode(block) {
-        Decoded::Value(v, a) => (v == bits) & (a == address),
-        Decoded::NoValue => false,
-    }
+    value::decode(block) == Some((bits, address))
 }
 
 // A line: a value, an address byte, and their value block.
@@ -24,10 +20,10 @@ pub(crate) fn agrees_in_form(f: [u8; 22]) -> bool {
     let bits = word(f, 17);
     let address = f[21];
     match value::decode(line::block(f, 0)) {
-        Decoded::Value(v, a) => {
+        Some((v, a)) => {
             let same = (flag == 1) & (v == bits) & (a == address);
             same & line::is_block(f, 0, value::encode(v, a))
         }
-        Decoded::NoValue => (flag == 0) & (bits == 0) & (address == 0),
+        None => (flag == 0) & (bits == 0) & (address == 0),
     }
 }

@@ -1,5 +1,6 @@
 -- The laws of the access bytes that the desk writes.
 -- Assumes nothing.
+use Rattle.std.proofs.Common.{Some}
 use mathlib.Core.Path.{◌≡◌, refl, ◌∙◌, ap}
 use mathlib.Core.Bool.{Bool, true, false, ◌&&◌}
 use mathlib.Core.List.{List, [], ◌∷◌}
@@ -8,7 +9,7 @@ use native.Mathlib.Omega.{arith}
 use lib.Dec.{eqb, ltb}
 use lib.ListN.{length, get_or, set, length-set}
 use lib.Seq.{get_or-set_same, get_or-set_other}
-use borrow.Author.Tests.{ltb-true, lt-ltb, eqb-true}
+use borrow.Author.Tests.{ltb-true, lt-ltb}
 use Rattle.layout.specs.Layout.{sectors_of, blocks_of, has_sector, has_block, trailer_of, group_number}
 use Rattle.layout.specs.declared.Block.{Block}
 use Rattle.layout.specs.declared.Sector.{Sector}
@@ -19,9 +20,11 @@ use Rattle.memory.specs.Memory.{content_of, byte_of, store_of}
 use Rattle.memory.proofs.Laws.{content_length, store_length, store_back, store_other}
 use Rattle.access.specs.Bits.{access_bytes_of, well_formed, group_bits, bits_of, nibble_of, encode_bits}
 use Rattle.access.specs.declared.bits.AccessBytes.{AccessBytes}
-use Rattle.access.specs.declared.bits.Bits.TheVariants.{Are}
 use Rattle.access.proofs.BitLaws.{one_of, split_back, opened}
-use Rattle.issue.specs.Groups.{are_bits, access_number, access_for, with_access, access_image, told_by, read_access}
+use Rattle.issue.specs.Groups.{are_bits, sector_refusal, access_refusal, access_for, with_access, access_image, told_by, read_access}
+use Rattle.std.specs.Prelude.{Result, Ok, Err}
+use Rattle.issue.specs.declared.AccessRefusal.{AccessRefusal}
+use Rattle.issue.proofs.Choice.{not_ok}
 use Rattle.issue.specs.Laws.{BitsBack, AccessBack, SectorsStay, TrailerStays, BySector, DeliveryBits}
 
 -- what a call that is not refused has passed
@@ -30,14 +33,14 @@ pub record Passed (bytes : ℕ) (s : Sector) (bits : List ℕ) : Type 0 where
   pub sector : has_sector bytes s ≡ true
   pub small : are_bits bits ≡ true
 
-passed : (bytes : ℕ) (s : Sector) (bits : List ℕ) → access_number bytes s bits ≡ 0 → Passed bytes s bits
-unfolding access_number
+passed : (bytes : ℕ) (s : Sector) (bits : List ℕ) → access_refusal bytes s bits ≡ Ok tt → Passed bytes s bits
+unfolding access_refusal sector_refusal
 passed bytes s bits n = go (eqb (sectors_of bytes) 0) refl (has_sector bytes s) refl (are_bits bits) refl
   where
     go : (t : Bool) → eqb (sectors_of bytes) 0 ≡ t → (u : Bool) → has_sector bytes s ≡ u → (w : Bool) → are_bits bits ≡ w → Passed bytes s bits
-    go true e u f w g = let q : ◌≡◌ {A = ℕ} 11 0 = rw e at n in absurd (omega arith)
-    go false e false f w g = let q : ◌≡◌ {A = ℕ} 2 0 = rw (e, f) at n in absurd (omega arith)
-    go false e true f false g = let q : ◌≡◌ {A = ℕ} 28 0 = rw (e, f, g) at n in absurd (omega arith)
+    go true e u f w g = absurd (not_ok (rw e at n))
+    go false e false f w g = absurd (not_ok (rw (e, f) at n))
+    go false e true f false g = absurd (not_ok (rw (e, f, g) at n))
     go false e true f true g = record { card = e; sector = f; small = g }
 
 four : (a b c d : Bool) → (((a && b) && c) && d) ≡ true → (a ≡ true) × (b ≡ true) × (c ≡ true) × (d ≡ true)
@@ -48,7 +51,7 @@ four true false c d e = let q : false ≡ true = e in let z : ◌≡◌ {A = ℕ
 four false b c d e = let q : false ≡ true = e in let z : ◌≡◌ {A = ℕ} 0 1 = cc in absurd (omega arith)
 
 -- the bits of each group are what the four access bytes' nibbles were made of
-bits_made : (bits : List ℕ) (g : Group) → are_bits bits ≡ true → bits_of (access_for bits) g ≡ Are (get_or bits (group_number g) 0)
+bits_made : (bits : List ℕ) (g : Group) → are_bits bits ≡ true → bits_of (access_for bits) g ≡ Some (get_or bits (group_number g) 0)
 unfolding are_bits access_for
 bits_made bits g e =
     let a = get_or bits 0 0 in
@@ -56,7 +59,7 @@ bits_made bits g e =
     let c = get_or bits 2 0 in
     let d = get_or bits 3 0 in
     let f = four (ltb a 8) (ltb b 8) (ltb c 8) (ltb d 8) e in
-    split_back a b c d g (ltb-true a 8 f.0) (ltb-true b 8 f.1) (ltb-true c 8 f.2) (ltb-true d 8 f.3) ∙ ap Are (pick g)
+    split_back a b c d g (ltb-true a 8 f.0) (ltb-true b 8 f.1) (ltb-true c 8 f.2) (ltb-true d 8 f.3) ∙ ap Some (pick g)
   where
     pick : (g : Group) → one_of g (get_or bits 0 0) (get_or bits 1 0) (get_or bits 2 0) (get_or bits 3 0) ≡ get_or bits (group_number g) 0
     pick First = refl
@@ -101,13 +104,13 @@ module _ (image : List ℕ) (s : Sector) (bits : List ℕ) where
   after_length : length after ≡ 16
   after_length = with_length (content_of image b) (access_for bits) ∙ content_length image b
 
-  stored : access_number (length image) s bits ≡ 0 → access_image image s bits ≡ store_of image b after
+  stored : access_refusal (length image) s bits ≡ Ok tt → access_image image s bits ≡ store_of image b after
   unfolding access_image
   stored e = rw e
 
-  stays : eqb (access_number (length image) s bits) 0 ≡ false → access_image image s bits ≡ image
+  stays : (r : AccessRefusal) → access_refusal (length image) s bits ≡ Err r → access_image image s bits ≡ image
   unfolding access_image
-  stays e = rw e
+  stays r e = rw e
 
   has_trailer : Passed (length image) s bits → has_block (length image) b ≡ true
   unfolding has_block has_sector blocks_of
@@ -115,17 +118,17 @@ module _ (image : List ℕ) (s : Sector) (bits : List ℕ) where
       let l : s.0 < sectors_of (length image) = ltb-true s.0 (sectors_of (length image)) p.sector in
       lt-ltb b.0 _ (trailer_exists (sectors_of (length image)) s (omega (arith, (at_most (length image)).0)) l)
 
-  reads : access_number (length image) s bits ≡ 0 → access_bytes_of (content_of (access_image image s bits) b) ≡ access_for bits
+  reads : access_refusal (length image) s bits ≡ Ok tt → access_bytes_of (content_of (access_image image s bits) b) ≡ access_for bits
   reads e =
       rw (stored e, store_back image b after after_length (has_trailer (passed (length image) s bits e)))
       (with_back (content_of image b) (access_for bits) (content_length image b))
 
   same_length : length (access_image image s bits) ≡ length image
-  same_length = go (eqb (access_number (length image) s bits) 0) refl
+  same_length = go (access_refusal (length image) s bits) refl
     where
-      go : (t : Bool) → eqb (access_number (length image) s bits) 0 ≡ t → length (access_image image s bits) ≡ length image
-      go true e = rw (stored (eqb-true _ 0 e)) (store_length image b after after_length)
-      go false e = rw (stays e)
+      go : (r : Result (Unit {0}) AccessRefusal) → access_refusal (length image) s bits ≡ r → length (access_image image s bits) ≡ length image
+      go (Ok u) e = rw (stored e) (store_length image b after after_length)
+      go (Err r) e = rw (stays r e)
 
 pub bits_back : BitsBack
 bits_back image s bits g e =
@@ -140,7 +143,7 @@ list_of_four (a ∷ b ∷ c ∷ d ∷ []) e = refl
 list_of_four (a ∷ b ∷ c ∷ d ∷ x ∷ l) e = absurd (omega arith)
 
 pub access_back : AccessBack
-unfolding read_access told_by
+unfolding read_access sector_refusal told_by
 access_back image s bits l e =
     let p = passed (length image) s bits e in
     let x = access_for bits in
@@ -160,26 +163,25 @@ access_back image s bits l e =
     )
 
 pub sectors_stay : SectorsStay
-sectors_stay image s bits j ne = go (eqb (access_number (length image) s bits) 0) refl
+sectors_stay image s bits j ne = go (access_refusal (length image) s bits) refl
   where
-    go : (t : Bool) → eqb (access_number (length image) s bits) 0 ≡ t → content_of (access_image image s bits) j ≡ content_of image j
-    go true e =
-        rw (stored image s bits (eqb-true _ 0 e)) (store_other image (trailer_of s) (after image s bits) (after_length image s bits) j ne)
-    go false e = rw (stays image s bits e)
+    go : (r : Result (Unit {0}) AccessRefusal) → access_refusal (length image) s bits ≡ r → content_of (access_image image s bits) j ≡ content_of image j
+    go (Ok u) e =
+        rw (stored image s bits e) (store_other image (trailer_of s) (after image s bits) (after_length image s bits) j ne)
+    go (Err r) e = rw (stays image s bits r e)
 
 pub trailer_stays : TrailerStays
 unfolding byte_of
-trailer_stays image s bits i p q r = go (eqb (access_number (length image) s bits) 0) refl
+trailer_stays image s bits i p q r = go (access_refusal (length image) s bits) refl
   where
-    go : (t : Bool) → eqb (access_number (length image) s bits) 0 ≡ t → byte_of (access_image image s bits) (trailer_of s) i ≡ byte_of image (trailer_of s) i
-    go true e =
-        let z = eqb-true (access_number (length image) s bits) 0 e in
-        rw (stored image s bits z, store_back image (trailer_of s) (after image s bits) (after_length image s bits) (has_trailer image s bits (passed (length image) s bits z)))
+    go : (r : Result (Unit {0}) AccessRefusal) → access_refusal (length image) s bits ≡ r → byte_of (access_image image s bits) (trailer_of s) i ≡ byte_of image (trailer_of s) i
+    go (Ok u) e =
+        rw (stored image s bits e, store_back image (trailer_of s) (after image s bits) (after_length image s bits) (has_trailer image s bits (passed (length image) s bits e)))
         (with_kept (content_of image (trailer_of s)) (access_for bits) i p q r)
-    go false e = rw (stays image s bits e)
+    go (Err r) e = rw (stays image s bits r e)
 
 pub by_sector : BySector
-unfolding access_number has_sector sectors_of are_bits
+unfolding access_refusal sector_refusal has_sector sectors_of are_bits
 by_sector = (refl, refl, refl, refl)
 
 pub delivery_bits : DeliveryBits

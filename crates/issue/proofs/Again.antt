@@ -1,7 +1,7 @@
 -- A directory that is accepted, read and written again, is the one that was there.
 -- Assumes nothing.
-use mathlib.Core.Path.{◌≡◌, refl, sym, ◌∙◌, ap, ap₂}
-use mathlib.Core.Bool.{Bool, true, false, cond, ◌&&◌}
+use mathlib.Core.Path.{◌≡◌, refl, ◌∙◌, ap, ap₂}
+use mathlib.Core.Bool.{Bool, true, false, ◌&&◌}
 use mathlib.Core.List.{List, [], ◌∷◌, ◌++◌}
 use Prim.Native.Nat.{ℕ, zero, suc, ◌+◌, ◌*◌, ◌-◌, ◌/◌, ◌%◌, ◌≤◌, ◌<◌}
 use native.Mathlib.Omega.{arith}
@@ -14,20 +14,21 @@ use Rattle.memory.specs.Memory.{content_of, byte_of}
 use Rattle.memory.proofs.Laws.{store_same}
 use Rattle.directory.specs.Checksum.{checksum_of}
 use Rattle.directory.specs.Directory.{announced_of, version_of, part_of, right_bytes, is_intact, info_of, numbers_of, entries_in, entries_of}
-use Rattle.directory.specs.Lookup.{version_refusal}
+use Rattle.std.specs.Prelude.{Option, Some, None}
+use Rattle.directory.specs.Lookup.{is_right}
 use Rattle.directory.specs.declared.Version.{Version}
-use Rattle.directory.specs.declared.Version.TheVariants.{Absent, One, Two}
+use Rattle.directory.specs.declared.Version.TheVariants.{One, Two}
 use Rattle.directory.specs.declared.Part.{Part}
 use Rattle.directory.specs.declared.Part.TheVariants.{First, Second}
 use Rattle.directory.proofs.Places.{first_entries}
 use Rattle.directory.proofs.Range.{Small, byte_small}
-use Rattle.issue.specs.Write.{part_bytes, directory_bytes, directory_blocks, announcing, announced, written_as}
-use Rattle.issue.specs.Read.{count_of, infos_of, bytes_of}
+use Rattle.issue.specs.Write.{part_bytes, directory_bytes, directory_blocks, digit_of, announcing, announced, written_as}
+use Rattle.issue.specs.Read.{infos_of, bytes_of}
 use Rattle.issue.specs.Laws.{Bytes}
-use Rattle.issue.proofs.Choice.{and_both, digit_of, needed_of}
+use Rattle.issue.proofs.Choice.{and_both, needed_of}
 use Rattle.issue.proofs.Blocks.{filled_same}
 use Rattle.issue.proofs.Lists.{bytes_append, bytes_length}
-use Rattle.issue.proofs.Versions.{written_as_lem, whole_of, whole_held, first_length, second_length}
+use Rattle.issue.proofs.Versions.{whole_of, whole_held, first_length, second_length}
 
 -- bytes, as numbers and as bytes again
 pub bytes_back : (n : ℕ) (xs : List ℕ) → length xs ≡ 2 * n → Bytes xs → bytes_of (numbers_of xs) ≡ xs
@@ -62,16 +63,6 @@ bytes_both xs ys p q i = go (ltb i (length xs)) refl
         let n : i ≡ length xs + (i - length xs) = omega arith in
         rw (ap (λ (k : ℕ). get_or (xs ++ ys) k 0) n, get_or-append-add xs ys (i - length xs) 0) (q (i - length xs))
 
--- a version is accepted where its parts are right
-one : (t : Bool) → ◌≡◌ {A = ℕ} (cond t 0 16) 0 → t ≡ true
-one true e = refl
-one false e = absurd (omega arith)
-
-both : (t u : Bool) → ◌≡◌ {A = ℕ} (cond (t && u) 0 16) 0 → (t ≡ true) × (u ≡ true)
-both true true e = (refl, refl)
-both true false e = absurd (omega arith)
-both false u e = absurd (omega arith)
-
 module _ (image : List ℕ) (byte : Bytes image) where
   content_bytes : (n : ℕ) → Bytes (content_of image (block_at n))
   unfolding Small byte_of
@@ -85,13 +76,12 @@ module _ (image : List ℕ) (byte : Bytes image) where
       (bytes_both (content_of image (block_at 65)) (content_of image (block_at 66)) (content_bytes 65) (content_bytes 66))
 
   -- all parts of a version that is accepted
-  directory_same : (v : Version) → version_refusal image v ≡ 0 → directory_bytes (infos_of image v) (bytes_of (entries_of image v)) v ≡ whole_of image v
-  unfolding directory_bytes version_refusal is_intact infos_of info_of entries_of entries_in
-  directory_same Absent e = refl
+  directory_same : (v : Version) → is_right image v ≡ true → directory_bytes (infos_of image v) (bytes_of (entries_of image v)) v ≡ whole_of image v
+  unfolding directory_bytes is_right is_intact infos_of info_of entries_of entries_in
   directory_same One e =
-      same_part (part_of image First) 15 (first_length image) (part_bytes_lem First) (one (right_bytes (part_of image First)) e)
+      same_part (part_of image First) 15 (first_length image) (part_bytes_lem First) e
   directory_same Two e =
-      let a = both (right_bytes (part_of image First)) (right_bytes (part_of image Second)) e in
+      let a = and_both (right_bytes (part_of image First)) (right_bytes (part_of image Second)) e in
       let p = numbers_of (drop 2 (part_of image First)) in
       let q = numbers_of (drop 2 (part_of image Second)) in
       let l : length (bytes_of p) ≡ 30 = bytes_length p ∙ ap (λ (n : ℕ). 2 * n) (first_entries image) in
@@ -106,21 +96,21 @@ pub record Said (b sectors : ℕ) (v : Version) : Type 0 where
   pub digit : b % 4 ≡ digit_of v
   pub room : needed_of v ≤ sectors
 
-pub said : (b sectors : ℕ) (v : Version) → announced_of b sectors ≡ v → 0 < count_of v → Said b sectors v
+pub said : (b sectors : ℕ) (v : Version) → announced_of b sectors ≡ Some v → Said b sectors v
 unfolding announced_of
-said b sectors v e h = go (leb 128 b) refl (eqb (b % 4) 1 && leb 16 sectors) refl (eqb (b % 4) 2 && leb 40 sectors) refl
+said b sectors v e = go (leb 128 b) refl (eqb (b % 4) 1 && leb 16 sectors) refl (eqb (b % 4) 2 && leb 40 sectors) refl
   where
-    none : Absent ≡ v → Said b sectors v
-    none q = let z : count_of v ≡ 0 = ap count_of (sym q) in absurd (omega arith)
+    none : ◌≡◌ {A = Option Version} None (Some v) → Said b sectors v
+    none q = let z : ◌≡◌ {A = ℕ} 0 1 = cc in absurd (omega arith)
 
     go : (t : Bool) → leb 128 b ≡ t → (x : Bool) → (eqb (b % 4) 1 && leb 16 sectors) ≡ x → (y : Bool) → (eqb (b % 4) 2 && leb 40 sectors) ≡ y → Said b sectors v
     go false f x g y k = none (rw f at e)
     go true f true g y k =
-        let q : One ≡ v = rw (f, g) at e in
+        let q : One ≡ v = let k : Some One ≡ Some v = rw (f, g) at e in cc in
         let a = and_both (eqb (b % 4) 1) (leb 16 sectors) g in
         rw (← q) (record { high = leb-true 128 b f; digit = eqb-true (b % 4) 1 a.0; room = leb-true 16 sectors a.1 })
     go true f false g true k =
-        let q : Two ≡ v = rw (f, g, k) at e in
+        let q : Two ≡ v = let z : Some Two ≡ Some v = rw (f, g, k) at e in cc in
         let a = and_both (eqb (b % 4) 2) (leb 40 sectors) k in
         rw (← q) (record { high = leb-true 128 b f; digit = eqb-true (b % 4) 2 a.0; room = leb-true 40 sectors a.1 })
     go true f false g false k = none (rw (f, g, k) at e)
@@ -132,10 +122,10 @@ byte_again b n s h e =
     let q : b % 128 ≡ b - 128 = omega arith in
     rw q (omega arith)
 
-module _ (image : List ℕ) (byte : Bytes image) (v : Version) (some : 0 < count_of v) (e : version_of image ≡ v) where
+module _ (image : List ℕ) (byte : Bytes image) (v : Version) (e : version_of image ≡ Some v) where
   pub announces_version : Said (byte_of image (block_at 3) 9) (sectors_of (length image)) v
   unfolding version_of
-  announces_version = said (byte_of image (block_at 3) 9) (sectors_of (length image)) v e some
+  announces_version = said (byte_of image (block_at 3) 9) (sectors_of (length image)) v e
 
   announced_same : announced image (digit_of v) ≡ image
   unfolding announced byte_of Small
@@ -146,7 +136,7 @@ module _ (image : List ℕ) (byte : Bytes image) (v : Version) (some : 0 < count
       byte_again (get_or c 9 0) (digit_of v) (byte_small image byte (block_at 3) 9) a.high a.digit in
       rw (b, set-get_or c 9 0) (store_same image (block_at 3))
 
-  pub written_same : version_refusal image v ≡ 0 → written_as image (infos_of image v) (bytes_of (entries_of image v)) v ≡ image
+  pub written_same : is_right image v ≡ true → written_as image (infos_of image v) (bytes_of (entries_of image v)) v ≡ image
+  unfolding written_as
   written_same r =
-      written_as_lem image (infos_of image v) (bytes_of (entries_of image v)) v some
-      ∙ rw (directory_same image byte v r, ← (whole_held image v), filled_same image (directory_blocks v)) announced_same
+      rw (directory_same image byte v r, ← (whole_held image v), filled_same image (directory_blocks v)) announced_same

@@ -15,29 +15,22 @@ use Rattle.memory.specs.Memory.{content_of, byte_of}
 use Rattle.memory.proofs.Laws.{content_length, store_length, store_back, store_other}
 use Rattle.directory.specs.Checksum.{checksum_of}
 use Rattle.directory.specs.Directory.{announced_of, part_of, right_bytes, is_intact, info_of, numbers_of, entries_in, entries_of}
-use Rattle.directory.specs.Lookup.{version_refusal}
+use Rattle.std.specs.Prelude.{Some}
+use Rattle.directory.specs.Lookup.{entry_count, is_right}
 use Rattle.directory.specs.declared.Version.{Version}
-use Rattle.directory.specs.declared.Version.TheVariants.{Absent, One, Two}
+use Rattle.directory.specs.declared.Version.TheVariants.{One, Two}
 use Rattle.directory.specs.declared.Part.TheVariants.{First, Second}
 use Rattle.directory.proofs.Numbers.{numbers_append}
-use Rattle.issue.specs.Write.{part_bytes, directory_bytes, directory_blocks, filled, announcing, announced, written_as}
-use Rattle.issue.specs.Read.{count_of, infos_of}
+use Rattle.issue.specs.Write.{part_bytes, directory_bytes, directory_blocks, digit_of, announcing, announced}
+use Rattle.issue.specs.Read.{infos_of}
 use Rattle.issue.specs.Laws.{infos_for, NotAmong}
-use Rattle.issue.proofs.Choice.{digit_of, needed_of}
+use Rattle.issue.proofs.Choice.{needed_of}
 use Rattle.issue.proofs.Blocks.{held, Apart}
 use Rattle.issue.proofs.Filling.{part_length}
 
-pub written_as_lem : (image infos numbers : List ℕ) (v : Version) → 0 < count_of v
-    → written_as image infos numbers v ≡ announced (filled image (directory_blocks v) (directory_bytes infos numbers v)) (digit_of v)
-unfolding written_as
-written_as_lem image infos numbers Absent h = absurd (omega arith)
-written_as_lem image infos numbers One h = refl
-written_as_lem image infos numbers Two h = refl
-
 -- its bytes fill its blocks
-pub directory_length : (infos numbers : List ℕ) (v : Version) → length numbers ≡ 2 * count_of v → length (directory_bytes infos numbers v) ≡ 16 * length (directory_blocks v)
+pub directory_length : (infos numbers : List ℕ) (v : Version) → length numbers ≡ 2 * entry_count v → length (directory_bytes infos numbers v) ≡ 16 * length (directory_blocks v)
 unfolding directory_bytes directory_blocks
-directory_length infos numbers Absent e = refl
 directory_length infos numbers One e = omega (arith, part_length (get_or infos 0 0) numbers)
 directory_length infos numbers Two e =
     let n : length (take 30 numbers) ≡ 30 = length-take-le 30 numbers (omega arith) in
@@ -55,7 +48,6 @@ has_trailer bytes h = has bytes 3 h
 
 pub blocks_apart : (image : List ℕ) (v : Version) → needed_of v ≤ sectors_of (length image) → Apart image (directory_blocks v)
 unfolding directory_blocks sector_of
-blocks_apart image Absent h = tt
 blocks_apart image One h =
     (has (length image) 1 (omega arith), (((λ z. omega arith), tt), (has (length image) 2 (omega arith), (tt, tt))))
 blocks_apart image Two h =
@@ -82,7 +74,6 @@ blocks_apart image Two h =
 -- and the trailer of sector 0 is none of them
 pub trailer_apart : (v : Version) → NotAmong 3 (directory_blocks v)
 unfolding directory_blocks
-trailer_apart Absent = tt
 trailer_apart One = ((λ z. omega arith), ((λ z. omega arith), tt))
 trailer_apart Two =
     ((λ z. omega arith), ((λ z. omega arith), ((λ z. omega arith), ((λ z. omega arith), ((λ z. omega arith), tt)))))
@@ -126,13 +117,12 @@ module _ (image : List ℕ) (n : ℕ) where
       ∙ get_or-set_same (content_of image (block_at 3)) 9 (announcing (byte_of image (block_at 3) 9) n) 0 (omega (arith, content_length image (block_at 3)))
 
 -- a byte that was made so announces the version
-pub announces : (b sectors : ℕ) (v : Version) → 0 < count_of v → needed_of v ≤ sectors → announced_of (announcing b (digit_of v)) sectors ≡ v
+pub announces : (b sectors : ℕ) (v : Version) → needed_of v ≤ sectors → announced_of (announcing b (digit_of v)) sectors ≡ Some v
 unfolding announced_of
-announces b sectors Absent h l = absurd (omega arith)
-announces b sectors One h l =
+announces b sectors One l =
     let a = announcing_bits b 1 (omega arith) in
     rw (le-leb 128 (announcing b 1) a.0, eq-eqb (announcing b 1 % 4) 1 a.1, le-leb 16 sectors l)
-announces b sectors Two h l =
+announces b sectors Two l =
     let a = announcing_bits b 2 (omega arith) in
     rw (
       le-leb 128 (announcing b 2) a.0,
@@ -143,13 +133,11 @@ announces b sectors Two h l =
 
 -- all bytes of a version's parts
 abbrev pub whole_of : List ℕ → Version → List ℕ
-whole_of image Absent = []
 whole_of image One = part_of image First
 whole_of image Two = part_of image First ++ part_of image Second
 
 pub whole_held : (image : List ℕ) (v : Version) → held image (directory_blocks v) ≡ whole_of image v
 unfolding part_of directory_blocks
-whole_held image Absent = refl
 whole_held image One = simp append-nil
 whole_held image Two = simp (append-nil, append_assoc)
 
@@ -175,16 +163,15 @@ right_part info numbers = eq-eqb (checksum_of (info ∷ numbers)) (checksum_of (
 
 -- so a version whose bytes are those that were made
 pub record Back (last infos numbers : List ℕ) (v : Version) : Type 0 where
-  pub sound : version_refusal last v ≡ 0
+  pub sound : is_right last v ≡ true
   pub infos_back : infos_of last v ≡ infos_for infos v
   pub entries_back : entries_of last v ≡ numbers_of numbers
 
 module _ (last infos numbers : List ℕ) where
-  pub back : (v : Version) → 0 < count_of v → length numbers ≡ 2 * count_of v → whole_of last v ≡ directory_bytes infos numbers v → Back last infos numbers v
-  unfolding directory_bytes version_refusal is_intact infos_of info_of entries_of entries_in part_bytes
-  back Absent h l e = absurd (omega arith)
-  back One h l e = record { sound = rw (e, right_part (get_or infos 0 0) numbers); infos_back = rw e; entries_back = rw e }
-  back Two h l e =
+  pub back : (v : Version) → length numbers ≡ 2 * entry_count v → whole_of last v ≡ directory_bytes infos numbers v → Back last infos numbers v
+  unfolding directory_bytes is_right is_intact infos_of info_of entries_of entries_in part_bytes
+  back One l e = record { sound = rw (e, right_part (get_or infos 0 0) numbers); infos_back = rw e; entries_back = rw e }
+  back Two l e =
       let n : length (take 30 numbers) ≡ 30 = length-take-le 30 numbers (omega arith) in
       let m : length (part_bytes (get_or infos 0 0) (take 30 numbers)) ≡ 32 = part_length (get_or infos 0 0) (take 30 numbers) ∙ rw n in
       let a =

@@ -1,42 +1,41 @@
 -- What can be relied on of what the desk writes and reads back.
-use Rattle.std.specs.Prelude.{◌≡◌, List, [], ◌∷◌, ◌++◌, ℕ, ◌*◌, ◌-◌, ◌/◌, ◌%◌, ◌<◌, ◌≤◌, length, get_or, take, replicate}
-use Rattle.layout.specs.Layout.{block_at, sector_at, sectors_of, trailer_of, group_number}
+use Rattle.std.specs.Prelude.{◌≡◌, List, [], ◌∷◌, ◌++◌, ℕ, ◌*◌, ◌-◌, ◌/◌, ◌%◌, ◌<◌, ◌≤◌, length, get_or, take, replicate, Some, None, Result, Ok, Err}
+use Rattle.layout.specs.Layout.{block_at, sector_at, trailer_of, group_number}
 use Rattle.layout.specs.declared.Block.{Block}
 use Rattle.layout.specs.declared.Sector.{Sector}
 use Rattle.layout.specs.declared.Group.{Group}
 use Rattle.memory.specs.Memory.{content_of, byte_of}
 use Rattle.access.specs.Bits.{access_bytes_of, bits_of}
-use Rattle.access.specs.declared.bits.Bits.TheVariants.{Are}
-use Rattle.directory.specs.Directory.{version_of, numbers_of}
-use Rattle.directory.specs.Lookup.{sector_of_place, refusal_of, lookup_of}
+use Rattle.directory.specs.Directory.{numbers_of}
+use Rattle.directory.specs.Lookup.{entry_count, sector_of_place, lookup_of}
 use Rattle.directory.specs.declared.Version.{Version}
-use Rattle.directory.specs.declared.Version.TheVariants.{Absent, One, Two}
-use Rattle.directory.specs.declared.Found.TheVariants.{At, Nothing}
+use Rattle.directory.specs.declared.Version.TheVariants.{One, Two}
+use Rattle.directory.specs.declared.Refusal.{Refusal}
 use Rattle.directory.specs.declared.Looked.{Looked}
-use Rattle.issue.specs.Write.{version_for, write_number, directory_bytes, directory_blocks, announcing, written_image}
-use Rattle.issue.specs.Read.{count_of, read_of, read_list}
-use Rattle.issue.specs.Groups.{access_number, access_for, access_image, read_access}
+use Rattle.issue.specs.Write.{version_to_write, directory_bytes, directory_blocks, announcing, written_image}
+use Rattle.issue.specs.Read.{read_of, read_list}
+use Rattle.issue.specs.Groups.{access_refusal, access_for, access_image, read_access}
+use Rattle.issue.specs.declared.read.Listing.{Listing}
+use Rattle.issue.specs.declared.WriteRefusal.{WriteRefusal}
+use Rattle.issue.specs.declared.WriteRefusal.TheVariants.{WrongCount}
+use Rattle.issue.specs.declared.WriteRefusal.TheVariants as write
+use Rattle.issue.specs.declared.AccessRefusal.TheVariants.{NoSector, NotBits}
+use Rattle.issue.specs.declared.AccessRefusal.TheVariants as access
 
 -- the numbers of a list are bytes
 abbrev pub Bytes : List ℕ → Type 0
 Bytes l = (i : ℕ) → get_or l i 0 < 256
 
--- the version that is written to an image
-abbrev pub version_on : List ℕ → List ℕ → Version
-version_on image numbers = version_for (sectors_of (length image)) (length numbers)
-
 -- of two info bytes those that a version has, 0 for the other
 abbrev pub infos_for : List ℕ → Version → List ℕ
-infos_for infos Absent = 0 ∷ 0 ∷ []
 infos_for infos One = get_or infos 0 0 ∷ 0 ∷ []
 infos_for infos Two = get_or infos 0 0 ∷ get_or infos 1 0 ∷ []
 
 -- what was written reads back: its version, its info bytes, and the list that went in, with zeros behind it
 abbrev pub ReadsBack : Type 0
 ReadsBack =
-    (image infos numbers : List ℕ) → Bytes numbers → write_number (length image) (length numbers) ≡ 0
-    → (read_of (written_image image infos numbers)
-    ≡ record { number = 0; version = version_on image numbers; infos = infos_for infos (version_on image numbers) })
+    (image infos numbers : List ℕ) (v : Version) → Bytes numbers → version_to_write (length image) (length numbers) ≡ Ok v
+    → (read_of (written_image image infos numbers) ≡ Ok (record { version = v; infos = infos_for infos v }))
     × (read_list (written_image image infos numbers) ≡ numbers ++ replicate (76 - length numbers) 0)
 
 -- a place, counted from 1, has the wanted number in a list
@@ -46,29 +45,29 @@ pub record Held (list : List ℕ) (wanted place : ℕ) : Type 0 where
   pub held : get_or list (place - 1) 0 ≡ wanted
 
 -- the answer for a list: the sector of a place that has the number, and no place that has it has a lower sector; or no place has it
-pub data Lowest (list : List ℕ) (wanted : ℕ) (a : Looked) : Type 0 where
+pub data Lowest (list : List ℕ) (wanted : ℕ) (a : Result Looked Refusal) : Type 0 where
   lowest : (place : ℕ) → Held list wanted place
       → ((other : ℕ) → Held list wanted other → (sector_of_place place).0 ≤ (sector_of_place other).0)
-      → a ≡ record { number = 0; found = At (sector_of_place place); count = place } → Lowest list wanted a
+      → a ≡ Ok (record { found = Some (sector_of_place place); count = place }) → Lowest list wanted a
   nowhere : ((other : ℕ) → Held list wanted other → ⊥)
-      → a ≡ record { number = 0; found = Nothing; count = length list } → Lowest list wanted a
+      → a ≡ Ok (record { found = None; count = length list }) → Lowest list wanted a
 
 -- the lookup over what was written gives that answer for the list that went in
 abbrev pub FindsLowest : Type 0
 FindsLowest =
-    (image infos numbers : List ℕ) (wanted : ℕ) → write_number (length image) (length numbers) ≡ 0
+    (image infos numbers : List ℕ) (v : Version) (wanted : ℕ) → version_to_write (length image) (length numbers) ≡ Ok v
     → Lowest (numbers_of numbers) wanted (lookup_of (written_image image infos numbers) wanted)
 
 -- the bytes of the numbers that were read, without the zeros behind them
-abbrev pub numbers_read : List ℕ → List ℕ
-numbers_read image = take (2 * count_of (version_of image)) (read_list image)
+abbrev pub numbers_read : List ℕ → Listing → List ℕ
+numbers_read image told = take (2 * entry_count told.version) (read_list image)
 
--- a directory that the lookup accepts, read and written again with its info bytes, is not refused and changes no byte of the image
+-- a directory that is read, and written again with its info bytes, is not refused and changes no byte of the image
 abbrev pub SameAgain : Type 0
 SameAgain =
-    (image : List ℕ) → Bytes image → refusal_of image ≡ 0
-    → (write_number (length image) (length (numbers_read image)) ≡ 0)
-    × (written_image image (read_of image).infos (numbers_read image) ≡ image)
+    (image : List ℕ) (told : Listing) → Bytes image → read_of image ≡ Ok told
+    → (version_to_write (length image) (length (numbers_read image told)) ≡ Ok told.version)
+    × (written_image image told.infos (numbers_read image told) ≡ image)
 
 -- a block is not among some
 abbrev pub NotAmong : ℕ → List ℕ → Type 0
@@ -78,7 +77,8 @@ NotAmong j (n ∷ ns) = (n ≡ j → ⊥) × NotAmong j ns
 -- a block that is neither of the version's directory nor sector 0's trailer stays as it is: so does sector 16 under version 1
 abbrev pub OthersStay : Type 0
 OthersStay =
-    (image infos numbers : List ℕ) (j : Block) → NotAmong j.0 (3 ∷ directory_blocks (version_on image numbers))
+    (image infos numbers : List ℕ) (j : Block)
+    → ((v : Version) → version_to_write (length image) (length numbers) ≡ Ok v → NotAmong j.0 (3 ∷ directory_blocks v))
     → content_of (written_image image infos numbers) j ≡ content_of image j
 
 -- of sector 0's trailer every byte but byte 9 stays
@@ -96,7 +96,8 @@ BitsStay =
 -- a call that is refused changes nothing, and no call changes the length
 abbrev pub RefusedStays : Type 0
 RefusedStays =
-    (image infos numbers : List ℕ) → (write_number (length image) (length numbers) ≡ 0 → ⊥) → written_image image infos numbers ≡ image
+    (image infos numbers : List ℕ) (r : WriteRefusal) → version_to_write (length image) (length numbers) ≡ Err r
+    → written_image image infos numbers ≡ image
 
 abbrev pub LengthStays : Type 0
 LengthStays = (image infos numbers : List ℕ) → length (written_image image infos numbers) ≡ length image
@@ -104,14 +105,14 @@ LengthStays = (image infos numbers : List ℕ) → length (written_image image i
 -- the bits that were written are those that each group then has, so the sector is not blocked
 abbrev pub BitsBack : Type 0
 BitsBack =
-    (image : List ℕ) (s : Sector) (bits : List ℕ) (g : Group) → access_number (length image) s bits ≡ 0
-    → bits_of (access_bytes_of (content_of (access_image image s bits) (trailer_of s))) g ≡ Are (get_or bits (group_number g) 0)
+    (image : List ℕ) (s : Sector) (bits : List ℕ) (g : Group) → access_refusal (length image) s bits ≡ Ok tt
+    → bits_of (access_bytes_of (content_of (access_image image s bits) (trailer_of s))) g ≡ Some (get_or bits (group_number g) 0)
 
 -- and reading the sector gives them back
 abbrev pub AccessBack : Type 0
 AccessBack =
-    (image : List ℕ) (s : Sector) (bits : List ℕ) → length bits ≡ 4 → access_number (length image) s bits ≡ 0
-    → read_access (access_image image s bits) s ≡ record { number = 0; bits = bits }
+    (image : List ℕ) (s : Sector) (bits : List ℕ) → length bits ≡ 4 → access_refusal (length image) s bits ≡ Ok tt
+    → read_access (access_image image s bits) s ≡ Ok bits
 
 -- every block but the sector's trailer stays as it is
 abbrev pub SectorsStay : Type 0
@@ -125,23 +126,23 @@ TrailerStays =
     (image : List ℕ) (s : Sector) (bits : List ℕ) (i : ℕ) → (i ≡ 6 → ⊥) → (i ≡ 7 → ⊥) → (i ≡ 8 → ⊥)
     → byte_of (access_image image s bits) (trailer_of s) i ≡ byte_of image (trailer_of s) i
 
--- the numbers of the two calls, on a 1K card and a 4K card: 30 bytes and 76, one byte less, and a length that is no card's
+-- the versions and refusals of the two calls, on a 1K card and a 4K card: 30 bytes and 76, one byte less, and a length that is no card's
 abbrev pub ByLength : Type 0
 ByLength =
-    (write_number 1024 30 ≡ 0)
-    × (write_number 4096 30 ≡ 0)
-    × (write_number 4096 76 ≡ 0)
-    × (write_number 1024 76 ≡ 27)
-    × (write_number 4096 75 ≡ 27)
-    × (write_number 1023 30 ≡ 11)
+    (version_to_write 1024 30 ≡ Ok One)
+    × (version_to_write 4096 30 ≡ Ok One)
+    × (version_to_write 4096 76 ≡ Ok Two)
+    × (version_to_write 1024 76 ≡ Err WrongCount)
+    × (version_to_write 4096 75 ≡ Err WrongCount)
+    × (version_to_write 1023 30 ≡ Err write.NoCard)
 
--- the last sector and the one after it, and bits above 7; 2 comes before 28
+-- the last sector and the one after it, and bits above 7; a missing sector comes before them
 abbrev pub BySector : Type 0
 BySector =
-    (access_number 1024 (sector_at 15) (7 ∷ 7 ∷ 7 ∷ 7 ∷ []) ≡ 0)
-    × (access_number 1024 (sector_at 16) (7 ∷ 7 ∷ 7 ∷ 8 ∷ []) ≡ 2)
-    × (access_number 4096 (sector_at 16) (7 ∷ 7 ∷ 7 ∷ 8 ∷ []) ≡ 28)
-    × (access_number 1023 (sector_at 16) (7 ∷ 7 ∷ 7 ∷ 8 ∷ []) ≡ 11)
+    (access_refusal 1024 (sector_at 15) (7 ∷ 7 ∷ 7 ∷ 7 ∷ []) ≡ Ok tt)
+    × (access_refusal 1024 (sector_at 16) (7 ∷ 7 ∷ 7 ∷ 8 ∷ []) ≡ Err NoSector)
+    × (access_refusal 4096 (sector_at 16) (7 ∷ 7 ∷ 7 ∷ 8 ∷ []) ≡ Err NotBits)
+    × (access_refusal 1023 (sector_at 16) (7 ∷ 7 ∷ 7 ∷ 8 ∷ []) ≡ Err access.NoCard)
 
 -- examples that were computed elsewhere: fifteen numbers, 4801h to 480Fh, with the info byte 0
 abbrev pub FifteenNumbers : Type 0

@@ -1,17 +1,11 @@
 // A sector's access bytes, from the bits of its four groups, and those bits read back.
 ghost use Rattle.std.specs.Prelude.{◌≡◌, ◌+◌, ◌*◌, ◌%◌, ◌<◌, length};
 ghost use Rattle.access.specs.Bits.{bits_of};
-ghost use Rattle.issue.specs.Groups.{are_bits, access_number, with_inverses, access_for, with_access, access_image, bits_in, untold, told_by, read_access};
+ghost use Rattle.issue.specs.Groups.{are_bits, sector_refusal, access_refusal, with_inverses, access_for, with_access, access_image, bits_in, told_by, read_access};
 
-use access::{AccessBytes, Bits};
+use crate::AccessRefusal;
+use access::AccessBytes;
 use layout::{Group, Sector};
-
-// What reading a sector's access bytes gives: the number, and the bits of its groups in their order.
-#[derive(Clone, Copy)]
-pub struct GroupBits {
-    pub number: u8,
-    pub bits: [u8; 4],
-}
 
 // A nibble from the low bit of each of four groups.
 fn nibble(a: u8, b: u8, c: u8, d: u8) -> u8
@@ -53,23 +47,30 @@ fn are_bits(bits: [u8; 4]) -> bool
     (bits[0] < 8) & (bits[1] < 8) & (bits[2] < 8) & (bits[3] < 8)
 }
 
-// 11, 2, 28, or 0 for a call that is not refused.
-fn number_of(bytes: usize, s: Sector, bits: [u8; 4]) -> u8
-    ensures { result ≡ access_number bytes s bits }
+// Has an image of so many bytes this sector?
+#[tactic(auto, unfolding(crate::specs::Groups::sector_refusal))]
+fn there(bytes: usize, s: Sector) -> Result<(), AccessRefusal>
+    ensures { result ≡ sector_refusal bytes s }
 {
-    let sectors = layout::sectors_of(bytes);
-    let here = layout::has_sector(bytes, s);
-    let right = are_bits(bits);
-    if sectors == 0 {
-        return 11;
+    if layout::sectors_of(bytes) == 0 {
+        return Err(AccessRefusal::NoCard);
     }
-    if here {
-        if right {
-            return 0;
-        }
-        return 28;
+    if layout::has_sector(bytes, s) {
+        return Ok(());
     }
-    2
+    Err(AccessRefusal::NoSector)
+}
+
+// May these bits be written to it?
+#[tactic(auto, unfolding(crate::specs::Groups::access_refusal))]
+fn judged(bytes: usize, s: Sector, bits: [u8; 4]) -> Result<(), AccessRefusal>
+    ensures { result ≡ access_refusal bytes s bits }
+{
+    there(bytes, s)?;
+    if are_bits(bits) {
+        return Ok(());
+    }
+    Err(AccessRefusal::NotBits)
 }
 
 // A trailer with other access bytes.
@@ -84,68 +85,46 @@ fn with_access(trailer: [u8; 16], x: AccessBytes) -> [u8; 16]
 }
 
 // The access bytes of a sector, from the bits of its groups in their order: C1 C2 C3 as a binary number each.
-pub fn write_access(image: &mut [u8], s: Sector, bits: [u8; 4]) -> u8
-    ensures value { result ≡ access_number (length image.old) s bits }
+#[tactic(auto, unfolding(crate::specs::Groups::access_image))]
+pub fn write_access(image: &mut [u8], s: Sector, bits: [u8; 4]) -> Result<(), AccessRefusal>
+    ensures value { result ≡ access_refusal (length image.old) s bits }
     ensures image_after { image.new ≡ access_image image.old s bits }
 {
-    let number = number_of(image.len(), s, bits);
-    if number != 0 {
-        return number;
-    }
+    judged(image.len(), s, bits)?;
     let b = layout::trailer_of(s);
     let trailer = memory::content(image, b);
     let after = with_access(trailer, access_for(bits));
     memory::store(image, b, after);
-    0
+    Ok(())
 }
 
 // A group's bits; 0 where the sector is blocked.
+#[tactic(auto, unfolding(crate::specs::Groups::bits_in))]
 fn bits_in(x: AccessBytes, g: Group) -> u8
     ensures { result ≡ bits_in (bits_of x g) }
 {
-    match access::bits_of(x, g) {
-        Bits::Blocked => 0,
-        Bits::Are(n) => n,
-    }
+    access::bits_of(x, g).unwrap_or(0)
 }
 
-fn refused(number: u8) -> GroupBits
-    ensures { result ≡ untold number }
-{
-    GroupBits {
-        number,
-        bits: [0, 0, 0, 0],
-    }
-}
-
-// What access bytes say of their groups: 5 where the sector is blocked.
-fn told_by(x: AccessBytes) -> GroupBits
+// What access bytes say of their groups.
+fn told_by(x: AccessBytes) -> Result<[u8; 4], AccessRefusal>
     ensures { result ≡ told_by x }
 {
-    let Bits::Are(a) = access::bits_of(x, Group::First) else {
-        return refused(5);
+    let Some(a) = access::bits_of(x, Group::First) else {
+        return Err(AccessRefusal::Blocked);
     };
     let b = bits_in(x, Group::Second);
     let c = bits_in(x, Group::Third);
     let d = bits_in(x, Group::Trailer);
-    GroupBits {
-        number: 0,
-        bits: [a, b, c, d],
-    }
+    Ok([a, b, c, d])
 }
 
-// The bits of a sector's groups; zeros where the call is refused.
-pub fn read_access(image: &[u8], s: Sector) -> GroupBits
+// The bits of a sector's groups, in their order.
+#[tactic(auto, unfolding(crate::specs::Groups::read_access))]
+pub fn read_access(image: &[u8], s: Sector) -> Result<[u8; 4], AccessRefusal>
     ensures { result ≡ read_access image.now s }
 {
-    let sectors = layout::sectors_of(image.len());
-    let here = layout::has_sector(image.len(), s);
-    if sectors == 0 {
-        return refused(11);
-    }
-    if here {
-        let trailer = memory::content(image, layout::trailer_of(s));
-        return told_by(access::access_bytes_of(trailer));
-    }
-    refused(2)
+    there(image.len(), s)?;
+    let trailer = memory::content(image, layout::trailer_of(s));
+    told_by(access::access_bytes_of(trailer))
 }

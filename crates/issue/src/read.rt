@@ -1,35 +1,23 @@
 // The directory, read back in full.
 ghost use Rattle.std.specs.Prelude.{◌≡◌, replicate};
 ghost use Rattle.directory.specs.Directory.{entries_of};
-ghost use Rattle.issue.specs.Read.{count_of, infos_of, list_of, read_of, read_list};
+ghost use Rattle.issue.specs.Read.{infos_of, list_of, read_of, read_list};
 
-use directory::{Part, Version};
+use directory::{Part, Refusal, Version};
 
-// What reading gives beside the list: the number, the version, and the info bytes, 0 where there is none.
+// What reading gives beside the list: the version, and the info bytes, 0 where there is none.
 #[derive(Clone, Copy)]
 pub struct Listing {
-    pub number: u8,
     pub version: Version,
     pub infos: [u8; 2],
 }
 
-// How many numbers a version has.
-fn count_of(version: Version) -> usize
-    ensures { result ≡ count_of version }
-{
-    match version {
-        Version::Absent => 0,
-        Version::One => 15,
-        Version::Two => 38,
-    }
-}
-
 // The info bytes of a version.
+#[tactic(auto, unfolding(crate::specs::Read::infos_of))]
 fn infos_of(image: &[u8], version: Version) -> [u8; 2]
     ensures { result ≡ infos_of image.now version }
 {
     match version {
-        Version::Absent => [0, 0],
         Version::One => [directory::info_byte(image, Part::First), 0],
         Version::Two => [
             directory::info_byte(image, Part::First),
@@ -43,36 +31,22 @@ fn list(image: &[u8], version: Version, numbers: &mut [u8; 76])
     requires { numbers.old ≡ replicate 76 0 }
     ensures { numbers.new ≡ list_of (entries_of image.now version) }
 {
-    let count = count_of(version);
-    let mut i = 0;
-    while i < count {
-        let n = directory::entry_at(image, i as u8 + 1);
-        numbers[2 * i] = (n % 256) as u8;
-        numbers[2 * i + 1] = (n / 256) as u8;
-        i += 1;
+    let count = directory::entry_count(version) as usize;
+    for i in 0..count {
+        let number = directory::entry_at(image, i as u8 + 1);
+        numbers[2 * i..2 * i + 2].copy_from_slice(&number.to_le_bytes());
     }
 }
 
-// A directory that is not refused, in full; nothing but zeros of one that is.
-pub fn read_directory(image: &[u8], numbers: &mut [u8; 76]) -> Listing
+// A directory that is not refused, in full; nothing but zeros of one that is. The list is lent, since C lends it.
+#[tactic(auto, unfolding(crate::specs::Read::read_of, crate::specs::Read::listed, crate::specs::Read::read_list, crate::specs::Read::entries_read, crate::specs::Read::list_of, crate::specs::Read::bytes_of))]
+pub fn read_directory(image: &[u8], numbers: &mut [u8; 76]) -> Result<Listing, Refusal>
     ensures value { result ≡ read_of image.now }
     ensures numbers_after { numbers.new ≡ read_list image.now }
 {
     *numbers = [0u8; 76];
-    let number = directory::refusal_of(image);
-    if number != 0 {
-        return Listing {
-            number,
-            version: Version::Absent,
-            infos: [0, 0],
-        };
-    }
-    let version = directory::version_of(image);
+    let version = directory::intact_version(image)?;
     list(image, version, numbers);
     let infos = infos_of(image, version);
-    Listing {
-        number: 0,
-        version,
-        infos,
-    }
+    Ok(Listing { version, infos })
 }

@@ -1,6 +1,5 @@
 // Does the crate `issue` write the access bytes of a record, and read its bits back?
 use crate::record;
-use issue::GroupBits;
 use layout::Sector;
 
 // The bits of the four groups.
@@ -18,19 +17,17 @@ fn is_written(trailer: [u8; 16], record: &[u8]) -> bool {
     expected[6] = record::byte(record, 4);
     expected[7] = record::byte(record, 5);
     expected[8] = record::byte(record, 6);
-    record::begins_with(&expected, &trailer)
-}
-
-fn is_read(told: GroupBits, record: &[u8]) -> bool {
-    let bits = told.bits;
-    (told.number == 0) & record::begins_with(&bits, &bits_of(record))
+    expected == trailer
 }
 
 // A record: the bits of the groups 0, 1, 2 and 3, and the access bytes that hold them.
 pub(crate) fn agree(record: &[u8]) -> bool {
     let mut image = [0u8; 1024];
-    let number = issue::write_access(&mut image, Sector(5), bits_of(record));
+    let bits = bits_of(record);
+    let written = issue::write_access(&mut image, Sector(5), bits).is_ok();
     let trailer = memory::content(&image, layout::trailer_of(Sector(5)));
-    let told = issue::read_access(&image, Sector(5));
-    (number == 0) & is_written(trailer, record) & is_read(told, record)
+    let Ok(told) = issue::read_access(&image, Sector(5)) else {
+        return false;
+    };
+    written & is_written(trailer, record) & (told == bits)
 }

@@ -2,18 +2,15 @@
 ghost use Rattle.std.specs.Prelude.{◌≤◌};
 
 use crate::record;
-use directory::Version;
 use issue::Listing;
 use layout::Block;
 
 // The numbers of a record, the low byte first.
 fn numbers_of(directory: &[u8]) -> [u8; 76] {
     let mut numbers = [0u8; 76];
-    let mut i = 0;
-    while i < 38 {
+    for i in 0..38 {
         numbers[2 * i] = record::byte(directory, 2 * i + 3);
         numbers[2 * i + 1] = record::byte(directory, 2 * i + 2);
-        i += 1;
     }
     numbers
 }
@@ -46,38 +43,30 @@ fn image_of(directory: &[u8], announcing: u8) -> [u8; 4096] {
     image
 }
 
-fn version_number(version: Version) -> u8 {
-    match version {
-        Version::Absent => 0,
-        Version::One => 1,
-        Version::Two => 2,
-    }
-}
-
 // Is the card what a record says? Nothing else stands on it, and the record's announcing byte has bit 6 besides.
 fn is_written(card: &[u8], directory: &[u8]) -> bool {
     let announcing = memory::byte(card, Block(3), 9);
     let expected = image_of(directory, announcing);
     let besides = (announcing / 64 == 2) & (announcing ^ 64 == record::byte(directory, 158));
-    besides & record::begins_with(&expected, card)
+    besides & expected.starts_with(card)
 }
 
 // The list of a record has zeros past the version's numbers, as the one that is read.
 fn is_read(told: Listing, list: [u8; 76], directory: &[u8]) -> bool {
-    let infos = told.infos;
-    let version = told.version;
-    let right = (told.number == 0) & (infos[0] == record::byte(directory, 1)) & (infos[1] == 0);
-    let same = version_number(version) == record::byte(directory, 0);
-    right & same & record::begins_with(&list, &numbers_of(directory))
+    let right = told.infos == [record::byte(directory, 1), 0];
+    let same = told.version as u8 == record::byte(directory, 0);
+    right & same & (list == numbers_of(directory))
 }
 
 // Writes a record's directory on a card, and reads it.
 fn comes_back(card: &mut [u8], directory: &[u8], numbers: &[u8]) -> bool {
     let infos = [record::byte(directory, 1), 0];
-    let number = issue::write_directory(card, infos, numbers);
+    let written = issue::write_directory(card, infos, numbers).is_ok();
     let mut list = [0u8; 76];
-    let told = issue::read_directory(card, &mut list);
-    (number == 0) & is_written(card, directory) & is_read(told, list, directory)
+    let Ok(told) = issue::read_directory(card, &mut list) else {
+        return false;
+    };
+    written & is_written(card, directory) & is_read(told, list, directory)
 }
 
 // A record: version, info byte, 38 numbers (zeros past the version's), the five blocks, the announcing byte. It is played on a card of zeros.

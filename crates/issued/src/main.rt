@@ -6,10 +6,10 @@ mod directories;
 mod files;
 mod record;
 
-use files::{Kind, play};
+use files::play;
 use std::io;
 
 fn main(rt: HostRuntime) -> io::Result<()> {
-    play(&rt, "directories.bin", Kind::Directories)?;
-    play(&rt, "access_bytes.bin", Kind::AccessBytes)
+    play(&rt, "directories.bin", 159, directories::agree)?;
+    play(&rt, "access_bytes.bin", 7, access_bytes::agree)
 }

@@ -1,5 +1,6 @@
 -- Checks 5, 6 and 7 by the kind of block: a trailer's group is the last, and block 0 is no trailer.
 -- Assumes nothing.
+use Rattle.std.proofs.Common.{None, Some, Result}
 use mathlib.Core.Path.{◌≡◌, refl, sym, ◌∙◌, ap}
 use mathlib.Core.Bool.{Bool, true, false, not, cond, false≢true}
 use mathlib.Core.List.{List, [], ◌∷◌}
@@ -18,14 +19,13 @@ use Rattle.access.specs.declared.bits.AccessBytes.{AccessBytes}
 use Rattle.access.specs.declared.rights.Letter.{Letter}
 use Rattle.access.specs.declared.rights.Operation.{Operation}
 use Rattle.session.specs.Session.{in_sector}
-use Rattle.session.specs.declared.Auth.{Auth}
-use Rattle.session.specs.declared.Auth.TheVariants.{Nobody, As}
+use Rattle.session.specs.Session.{Auth}
 use Rattle.layout.specs.declared.Sector.{Sector}
 use Rattle.judge.specs.First.{check, first}
 use Rattle.judge.specs.Checks.{access_of, no_block, other_sector, is_blocked, is_forbidden, right_of, has_right, writable_by, no_right, memory_checks}
 use Rattle.judge.specs.Code.{trailer_grant, grant_of, granted, verdict_of, guarded_of, letter_of}
-use Rattle.judge.specs.declared.checks.Verdict.{Verdict}
-use Rattle.judge.specs.declared.checks.Verdict.TheVariants.{Whole}
+use Rattle.judge.specs.declared.checks.Grant.{Grant}
+use Rattle.judge.specs.declared.checks.Grant.TheVariants.{Whole}
 
 -- block 0 is in the first group
 zero_first : (b : Block) → group_of b ≡ Trailer → eqb b.0 0 ≡ false
@@ -69,11 +69,11 @@ module _ (x : AccessBytes) (l : Letter) (o : Operation) (b : Block) (small : b.0
 rights_of : (auth : Auth) (t : Sector) (o : Operation) (trailer : Bool) (n m : ℕ) → in_sector auth t ≡ true
     → (has_right auth o trailer n m ≡ right_of (letter_of auth) o trailer n m) × (writable_by auth m ≡ writable_of (letter_of auth) m)
 unfolding in_sector has_right writable_by letter_of
-rights_of Nobody t o trailer n m h = absurd (false≢true h)
-rights_of (As s l) t o trailer n m h = (refl, refl)
+rights_of None t o trailer n m h = absurd (false≢true h)
+rights_of (Some (s, l)) t o trailer n m h = (refl, refl)
 
 -- so past 2 and 3 the sector decides
-pub decided : (image : List ℕ) (auth : Auth) (o : Operation) (b : Block) (x : AccessBytes) (l : Letter) (v : Verdict) → no_block image b ≡ false
+pub decided : (image : List ℕ) (auth : Auth) (o : Operation) (b : Block) (x : AccessBytes) (l : Letter) (v : Result Grant ℕ) → no_block image b ≡ false
     → other_sector auth b ≡ false → x ≡ access_of image b → l ≡ letter_of auth → v ≡ guarded_of x l o b → v ≡ verdict_of image auth o b
 unfolding verdict_of memory_checks grant_of no_right other_sector first
 decided image auth o b x l v has own ex el g =

@@ -1,3 +1,4 @@
 pub mod Guard
 pub mod Lists
 pub mod Shortcut
+pub mod Numbers

@@ -1,7 +1,7 @@
 -- Lists of checks, one part after the other; and what a verdict makes of a memory command.
 -- Assumes nothing.
 use mathlib.Core.Path.{◌≡◌, refl, sym, ◌∙◌, ap}
-use mathlib.Core.Bool.{Bool, true, false, cond, ◌&&◌, ◌||◌, false≢true}
+use mathlib.Core.Bool.{Bool, true, false, ◌||◌, false≢true}
 use mathlib.Core.List.{List, [], ◌∷◌, ◌++◌}
 use Prim.Native.Nat.{ℕ}
 use native.Mathlib.Omega.{arith}
@@ -11,9 +11,8 @@ use Rattle.layout.specs.declared.Block.{Block}
 use Rattle.access.specs.declared.rights.Letter.{Letter}
 use Rattle.access.specs.declared.rights.Operation.{Operation}
 use Rattle.access.specs.declared.rights.Operation.TheVariants as column
-use Rattle.access.specs.declared.bits.AccessBytes.{AccessBytes}
 use Rattle.session.specs.Session.{is_empty}
-use Rattle.session.specs.declared.Auth.{Auth}
+use Rattle.session.specs.Session.{Auth}
 use Rattle.session.specs.declared.Kind.{Kind}
 use Rattle.session.specs.declared.Kind.TheVariants.{Increment, Decrement, Restore}
 use Rattle.session.specs.declared.Session.{Session}
@@ -21,11 +20,13 @@ use Rattle.frame.specs.declared.Command.{Command}
 use Rattle.frame.specs.declared.Command.TheVariants.{Unknown, Authenticate, Read, Write, Store, Begin, Apply, Transfer, Halt}
 use Rattle.judge.specs.declared.Act.{Act}
 use Rattle.judge.specs.declared.Act.TheVariants.{Refused}
-use Rattle.judge.specs.declared.checks.Verdict.{Verdict}
-use Rattle.judge.specs.declared.checks.Verdict.TheVariants.{Refuse, Whole, InParts}
+use Rattle.std.proofs.Common.{Result, Ok, Err}
+use Rattle.judge.specs.declared.Refusal.{Refusal}
+use Rattle.judge.specs.declared.checks.Grant.{Grant}
+use Rattle.judge.specs.declared.checks.Grant.TheVariants.{Whole, InParts}
 use Rattle.judge.specs.First.{Check, check, Outcome, passes, refuses, first, ruled}
 use Rattle.judge.specs.Checks.{access_of, no_value, is_forbidden, kind_column, memory_checks, checks_of}
-use Rattle.judge.specs.Code.{trailer_grant, grant_of, granted, verdict_of, column_of, block_of, is_memory, done_with, coded_of}
+use Rattle.judge.specs.Code.{numbered, refusal_number, grant_of, granted, verdict_of, column_of, block_of, is_memory, done_with, coded_of}
 
 -- the first part refuses
 pub stop : (xs ys : List Check) (n : ℕ) → first xs ≡ refuses n → first (xs ++ ys) ≡ refuses n
@@ -77,37 +78,16 @@ two_parts image s (Apply b k) frame h = apply_parts image s b k frame
 two_parts image s (Transfer b) frame h = refl
 two_parts image s Halt frame h = absurd (false≢true h)
 
--- a grant is no refusal
-abbrev is_grant : Verdict → Bool
-is_grant (Refuse n) = false
-is_grant Whole = true
-is_grant (InParts m) = true
-
-grants : (x : AccessBytes) (auth : Auth) (o : Operation) (b : Block) → is_grant (grant_of x auth o b) ≡ true
-unfolding grant_of trailer_grant
-grants x auth o b = go o _ _ (is_trailer b)
-  where
-    cut : (t : Bool) (m : ℕ) → is_grant (cond t Whole (InParts m)) ≡ true
-    cut true m = refl
-    cut false m = refl
-
-    go : (o : Operation) (p : _) (m : ℕ) (t : Bool) → is_grant (cond t (trailer_grant o p m) Whole) ≡ true
-    go o p m false = refl
-    go column.Read p m true = refl
-    go column.Write p m true = cut (p.a && p.bits && p.b) m
-    go column.Increment p m true = refl
-    go column.Decrement p m true = refl
-
 -- what a verdict tells: the checks refused, or they passed and it is what was granted
-told_stop : (o : Outcome) (g : Verdict) (n : ℕ) → is_grant g ≡ true → granted o g ≡ Refuse n → o ≡ refuses n
+told_stop : (o : Outcome) (g : Grant) (n : ℕ) → granted o g ≡ Err n → o ≡ refuses n
 unfolding granted
-told_stop passes g n h e = absurd (false≢true (ap is_grant (sym e) ∙ h))
-told_stop (refuses k) g n h e = let q : k ≡ n = cc in ap refuses q
+told_stop passes g n e = let q : ◌≡◌ {A = ℕ} 0 1 = cc in absurd (omega (arith, q))
+told_stop (refuses k) g n e = let q : k ≡ n = cc in ap refuses q
 
-told_pass : (o : Outcome) (g v : Verdict) → is_grant v ≡ true → granted o g ≡ v → (o ≡ passes) × (g ≡ v)
+told_pass : (o : Outcome) (g v : Grant) → granted o g ≡ Ok v → (o ≡ passes) × (g ≡ v)
 unfolding granted
-told_pass passes g v h e = (refl, e)
-told_pass (refuses k) g v h e = absurd (false≢true (ap is_grant e ∙ h))
+told_pass passes g v e = let q : g ≡ v = cc in (refl, q)
+told_pass (refuses k) g v e = let q : ◌≡◌ {A = ℕ} 0 1 = cc in absurd (omega (arith, q))
 
 or_right : (x y : Bool) → (x || y) ≡ false → y ≡ false
 or_right false y e = e
@@ -121,10 +101,10 @@ past n false cs e = (refl, e)
 
 -- 6 refuses a value operation on a trailer, so it never comes to parts
 module _ (image : List ℕ) (auth : Auth) (b : Block) (m : ℕ) where
-  no_value_lem : (o : Operation) → ((z t : Bool) → is_forbidden o z t ≡ (z || t)) → verdict_of image auth o b ≡ InParts m → ⊥
+  no_value_lem : (o : Operation) → ((z t : Bool) → is_forbidden o z t ≡ (z || t)) → verdict_of image auth o b ≡ Ok (InParts m) → ⊥
   unfolding verdict_of grant_of memory_checks
   no_value_lem o value e =
-      let f = told_pass (first (memory_checks image auth o b)) (grant_of (access_of image b) auth o b) (InParts m) refl e in
+      let f = told_pass (first (memory_checks image auth o b)) (grant_of (access_of image b) auth o b) (InParts m) e in
       let p = past 6 _ _ (past 5 _ _ (past 3 _ _ (past 2 _ _ f.0).1).1).1 in
       let t : is_trailer b ≡ false = or_right (eqb b.0 0) (is_trailer b) (sym (value (eqb b.0 0) (is_trailer b)) ∙ p.0) in
       let g : Whole ≡ InParts m = rw t at f.1 in
@@ -145,40 +125,40 @@ is_memory_lem (Transfer b) u a h = refl
 is_memory_lem Halt u a h = absurd (h refl)
 
 -- the code's way: the column and the block that it asked about, and the verdict that it got
-module _ (image : List ℕ) (s : Session) (c : Command) (frame : List ℕ) (o : Operation) (b : Block) (v : Verdict) (memory : is_memory c ≡ true)
-    (asked : o ≡ column_of c) (about : b ≡ block_of c) (got : v ≡ verdict_of image s.auth o b) where
+module _ (image : List ℕ) (s : Session) (c : Command) (frame : List ℕ) (o : Operation) (b : Block) (v : Result Grant Refusal) (memory : is_memory c ≡ true)
+    (asked : o ≡ column_of c) (about : b ≡ block_of c) (got : numbered v ≡ verdict_of image s.auth o b) where
   abbrev shared : List Check
   shared = memory_checks image s.auth (column_of c) (block_of c)
 
-  judged : granted (first shared) (grant_of (access_of image (block_of c)) s.auth (column_of c) (block_of c)) ≡ v
+  judged : granted (first shared) (grant_of (access_of image (block_of c)) s.auth (column_of c) (block_of c)) ≡ numbered v
   unfolding verdict_of
   judged = rw (asked, about) at (sym got)
 
-  pub stopped : (n : ℕ) → v ≡ Refuse n → Refused n ≡ coded_of image s c frame
+  pub stopped : (r : Refusal) → v ≡ Err r → Refused (refusal_number r) ≡ coded_of image s c frame
   unfolding coded_of ruled
-  stopped n e =
-      let f : first shared ≡ refuses n = told_stop (first shared) _ n (grants (access_of image (block_of c)) s.auth (column_of c) (block_of c)) (judged ∙ e) in
-      rw (two_parts image s c frame memory, stop shared (further_of image s c) n f)
+  stopped r e =
+      let f : first shared ≡ refuses (refusal_number r) = told_stop (first shared) _ (refusal_number r) (judged ∙ ap numbered e) in
+      rw (two_parts image s c frame memory, stop shared (further_of image s c) (refusal_number r) f)
 
-  pub passed : (w : Verdict) → v ≡ w → is_grant w ≡ true → (c' : Command) → c ≡ c'
+  pub passed : (w : Grant) → v ≡ Ok w → (c' : Command) → c ≡ c'
       → ruled (first (further_of image s c')) (done_with w image s c' frame) ≡ coded_of image s c frame
   unfolding coded_of
-  passed w e h c' q =
-      let f = told_pass (first shared) _ w h (judged ∙ e) in
+  passed w e c' q =
+      let f = told_pass (first shared) _ w (judged ∙ ap numbered e) in
       rw (← q) (rw (two_parts image s c frame memory, pass shared (further_of image s c) f.0, f.1))
 
   -- only a Read and a Write come to parts of a trailer: 6 refuses the others
-  pub no_parts : (m : ℕ) → v ≡ InParts m → ((d : Block) → c ≡ Read d → ⊥) → ((d : Block) → c ≡ Write d → ⊥) → ((d : Block) → c ≡ Store d → ⊥) → (act : Act) → act ≡ coded_of image s c frame
+  pub no_parts : (m : ℕ) → v ≡ Ok (InParts m) → ((d : Block) → c ≡ Read d → ⊥) → ((d : Block) → c ≡ Write d → ⊥) → ((d : Block) → c ≡ Store d → ⊥) → (act : Act) → act ≡ coded_of image s c frame
   unfolding is_memory column_of block_of kind_column is_forbidden
-  no_parts m e r w o act = absurd (parts_of c memory r w o (rw (asked, about) at (sym got ∙ e)))
+  no_parts m e r w o act = absurd (parts_of c memory r w o (rw (asked, about) at (sym got ∙ ap numbered e)))
     where
-      by_kind : (d : Block) (k : Kind) → verdict_of image s.auth (kind_column k) d ≡ InParts m → ⊥
+      by_kind : (d : Block) (k : Kind) → verdict_of image s.auth (kind_column k) d ≡ Ok (InParts m) → ⊥
       by_kind d Increment = no_value_lem image s.auth d m column.Increment (λ z t. refl)
       by_kind d Decrement = no_value_lem image s.auth d m column.Decrement (λ z t. refl)
       by_kind d Restore = no_value_lem image s.auth d m column.Decrement (λ z t. refl)
 
       parts_of : (c : Command) → is_memory c ≡ true → ((d : Block) → c ≡ Read d → ⊥) → ((d : Block) → c ≡ Write d → ⊥) → ((d : Block) → c ≡ Store d → ⊥)
-          → verdict_of image s.auth (column_of c) (block_of c) ≡ InParts m → ⊥
+          → verdict_of image s.auth (column_of c) (block_of c) ≡ Ok (InParts m) → ⊥
       parts_of Unknown h r w o f = false≢true h
       parts_of (Authenticate d l) h r w o f = false≢true h
       parts_of (Read d) h r w o f = r d refl

@@ -1,5 +1,6 @@
 -- The code's shortcut for trailers, against the judgement.
 -- Assumes nothing.
+use Rattle.std.proofs.Common.{Err, None, Ok, Result, Some}
 use mathlib.Core.Path.{◌≡◌, refl, ◌∙◌, ap}
 use mathlib.Core.Bool.{Bool, true, false, cond, ◌&&◌, false≢true}
 use mathlib.Core.List.{List}
@@ -10,13 +11,12 @@ use Rattle.layout.specs.declared.Block.{Block}
 use Rattle.access.specs.declared.rights.Letter.{Letter}
 use Rattle.access.specs.declared.rights.Operation.TheVariants as column
 use Rattle.value.specs.Block.{bits_in, address_in}
-use Rattle.value.specs.declared.sum.Total.{Total}
-use Rattle.value.specs.declared.sum.Total.TheVariants.{Fits, Negative, Outside}
+use Rattle.value.specs.declared.sum.SumError.{SumError}
+use Rattle.value.specs.declared.sum.SumError.TheVariants.{Negative, Outside}
 use Rattle.memory.specs.Memory.{content_of}
 use Rattle.session.specs.Session.{coherent_of}
-use Rattle.session.specs.declared.Auth.{Auth}
-use Rattle.session.specs.declared.Register.{Register}
-use Rattle.session.specs.declared.Register.TheVariants.{Empty, Full}
+use Rattle.session.specs.Session.{Auth}
+use Rattle.session.specs.Session.{Register}
 use Rattle.session.specs.declared.Session.{Session}
 use Rattle.frame.specs.Command.{command_of}
 use Rattle.frame.specs.declared.Command.{Command}
@@ -25,7 +25,7 @@ use Rattle.judge.specs.First.{Outcome, passes, refuses, first, ruled}
 use Rattle.judge.specs.Checks.{no_card, incoherent, access_of, writable_by, authenticate_checks, checks_of, frame_checks}
 use Rattle.judge.specs.Judge.{total_for, load_of, applied_of, move_of, trailer_bits, shown_of, stored_of, done_of, commanded_of, judge_of}
 use Rattle.judge.specs.Code.{trailer_grant, grant_of, column_of, block_of, is_memory, shown_as, stored_as, done_with, coded_of, shortened}
-use Rattle.judge.specs.declared.checks.Verdict.TheVariants.{Whole, InParts}
+use Rattle.judge.specs.declared.checks.Grant.TheVariants.{Whole, InParts}
 use Rattle.judge.specs.declared.Act.{Act}
 use Rattle.judge.specs.declared.Act.TheVariants.{Authenticated, Shown, TrailerShown, Stored, TrailerStored}
 
@@ -35,16 +35,16 @@ unfolding ruled shortened
 short_ruled auth passes act = refl
 short_ruled auth (refuses n) act = refl
 
-short_load : (auth : Auth) (t : Total) (address : ℕ) → load_of t address ≡ shortened auth (load_of t address)
+short_load : (auth : Auth) (t : Result ℕ SumError) (address : ℕ) → load_of t address ≡ shortened auth (load_of t address)
 unfolding load_of shortened
-short_load auth (Fits v) address = refl
-short_load auth Negative address = refl
-short_load auth Outside address = refl
+short_load auth (Ok v) address = refl
+short_load auth (Err Negative) address = refl
+short_load auth (Err Outside) address = refl
 
 short_move : (auth : Auth) (r : Register) (b : Block) → move_of r b ≡ shortened auth (move_of r b)
 unfolding move_of shortened
-short_move auth Empty b = refl
-short_move auth (Full v a) b = refl
+short_move auth None b = refl
+short_move auth (Some (v, a)) b = refl
 
 module _ (image : List ℕ) (s : Session) (b : Block) where
   short_shown : shown_as b (grant_of (access_of image b) s.auth column.Read b) ≡ shortened s.auth (shown_of image b)

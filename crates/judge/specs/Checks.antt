@@ -1,5 +1,5 @@
 -- The checks by their numbers, and which of them each command has to pass. 9 is an empty register, and 13 and 10 come with the result.
-use Rattle.std.specs.Prelude.{ℕ, ◌+◌, Bool, true, false, not, ◌&&◌, ◌||◌, cond, List, [], ◌∷◌, ◌++◌, eqb, get_or, length}
+use Rattle.std.specs.Prelude.{ℕ, ◌+◌, Bool, true, false, not, ◌&&◌, ◌||◌, cond, List, [], ◌∷◌, ◌++◌, eqb, get_or, length, None, Some}
 use Rattle.layout.specs.Layout.{sectors_of, has_block, sector_of, trailer_of, is_trailer, group_of}
 use Rattle.layout.specs.declared.Block.{Block}
 use Rattle.layout.specs.declared.Group.TheVariants.{Trailer}
@@ -14,8 +14,7 @@ use Rattle.access.specs.declared.rights.Operation.TheVariants as column
 use Rattle.access.specs.declared.rights.Parts.{Parts}
 use Rattle.value.specs.Block.{agreeing}
 use Rattle.session.specs.Session.{coherent_of, in_sector, is_empty}
-use Rattle.session.specs.declared.Auth.{Auth}
-use Rattle.session.specs.declared.Auth.TheVariants.{Nobody, As}
+use Rattle.session.specs.Session.{Auth}
 use Rattle.session.specs.declared.Kind.{Kind}
 use Rattle.session.specs.declared.Kind.TheVariants.{Increment, Decrement, Restore}
 use Rattle.session.specs.declared.Session.{Session}
@@ -89,13 +88,13 @@ unfoldable pub right_of : Letter → Operation → Bool → ℕ → ℕ → Bool
 right_of l o trailer n m = not (mute_of l m) && cond trailer (trailer_right o (writable_of l n)) (may_of l o n)
 
 unfoldable pub has_right : Auth → Operation → Bool → ℕ → ℕ → Bool
-has_right Nobody o trailer n m = false
-has_right (As s l) o trailer n m = right_of l o trailer n m
+has_right None o trailer n m = false
+has_right (Some (s, l)) o trailer n m = right_of l o trailer n m
 
 -- the parts of a trailer with the bits m that a session may write
 unfoldable pub writable_by : Auth → ℕ → Parts
-writable_by Nobody m = record { a = false; bits = false; b = false }
-writable_by (As s l) m = writable_of l m
+writable_by None m = record { a = false; bits = false; b = false }
+writable_by (Some (s, l)) m = writable_of l m
 
 -- 7: the rights do not allow it
 unfoldable pub no_right : AccessBytes → Auth → Operation → Block → Bool

@@ -1,18 +1,17 @@
 -- The judgement of a frame: the refusal, or what the frame does.
-use Rattle.std.specs.Prelude.{ℕ, cond, List}
+use Rattle.std.specs.Prelude.{ℕ, cond, List, Err, None, Ok, Result, Some}
 use Rattle.layout.specs.Layout.{sector_of, is_trailer}
 use Rattle.layout.specs.declared.Block.{Block}
 use Rattle.layout.specs.declared.Group.TheVariants.{Trailer}
 use Rattle.memory.specs.Memory.{content_of}
 use Rattle.value.specs.Block.{bits_in, address_in}
 use Rattle.value.specs.Sum.{plus_of, minus_of}
-use Rattle.value.specs.declared.sum.Total.{Total}
-use Rattle.value.specs.declared.sum.Total.TheVariants.{Fits, Negative, Outside}
+use Rattle.value.specs.declared.sum.SumError.{SumError}
+use Rattle.value.specs.declared.sum.SumError.TheVariants.{Negative, Outside}
 use Rattle.access.specs.Bits.{group_bits}
 use Rattle.session.specs.declared.Kind.{Kind}
 use Rattle.session.specs.declared.Kind.TheVariants.{Increment, Decrement, Restore}
-use Rattle.session.specs.declared.Register.{Register}
-use Rattle.session.specs.declared.Register.TheVariants.{Empty, Full}
+use Rattle.session.specs.Session.{Register}
 use Rattle.session.specs.declared.Session.{Session}
 use Rattle.frame.specs.Command.{command_of}
 use Rattle.frame.specs.declared.Command.{Command}
@@ -23,16 +22,16 @@ use Rattle.judge.specs.declared.Act.{Act}
 use Rattle.judge.specs.declared.Act.TheVariants.{Refused, Authenticated, Shown, TrailerShown, WriteWaits, ValueWaits, Stored, TrailerStored, Loaded, Moved, Halted}
 
 -- what a value operation makes of a value; Restore leaves it, whatever its operand
-unfoldable pub total_for : Kind → ℕ → ℕ → Total
+unfoldable pub total_for : Kind → ℕ → ℕ → Result ℕ SumError
 total_for Increment value operand = plus_of value operand
 total_for Decrement value operand = minus_of value operand
-total_for Restore value operand = Fits value
+total_for Restore value operand = Ok value
 
 -- 13 where the operand is below zero, 10 where the result is out of range, else it is loaded, with the source's address byte
-unfoldable pub load_of : Total → ℕ → Act
-load_of (Fits v) address = Loaded v address
-load_of Negative address = Refused 13
-load_of Outside address = Refused 10
+unfoldable pub load_of : Result ℕ SumError → ℕ → Act
+load_of (Ok v) address = Loaded v address
+load_of (Err Negative) address = Refused 13
+load_of (Err Outside) address = Refused 10
 
 -- what a second value frame does after its checks
 unfoldable pub applied_of : List ℕ → Kind → Block → List ℕ → Act
@@ -41,8 +40,8 @@ applied_of image k b frame =
 
 -- after the checks of a Transfer: the register goes into the block (9 has refused an empty one)
 unfoldable pub move_of : Register → Block → Act
-move_of Empty b = Refused 9
-move_of (Full v a) b = Moved b v a
+move_of None b = Refused 9
+move_of (Some (v, a)) b = Moved b v a
 
 -- the bits of the trailer of a block's sector
 abbrev pub trailer_bits : List ℕ → Block → ℕ

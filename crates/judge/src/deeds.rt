@@ -8,12 +8,12 @@ ghost use Rattle.judge.specs.Code.{column_of, block_of, is_memory, coded_of};
 ghost use Rattle.judge.specs.Judge.{move_of};
 ghost use Rattle.session.specs.Session.{is_empty};
 
-use crate::checks::Verdict;
-use crate::{Act, checks, values};
-use access::{Bits, Letter, Operation};
+use crate::checks::Grant;
+use crate::{Act, Refusal, checks, refused, values};
+use access::{Letter, Operation};
 use frame::Command;
 use layout::{Block, Group};
-use session::{Kind, Register, Session};
+use session::{Kind, Session};
 
 pub(crate) fn authenticate(image: &[u8], l: Letter, b: Block, frame: &[u8]) -> Act
     ensures { result ≡ ruled (first (authenticate_checks image.now l b frame.now)) (Act.Authenticated (sector_of b) l) }
@@ -22,17 +22,17 @@ pub(crate) fn authenticate(image: &[u8], l: Letter, b: Block, frame: &[u8]) -> A
         let s = layout::sector_of(b);
         let t = memory::content(image, layout::trailer_of(s));
         match access::bits_of(access::access_bytes_of(t), Group::Trailer) {
-            Bits::Blocked => Act::Refused(5),
-            Bits::Are(_) => {
+            None => refused(Refusal::Blocked),
+            Some(_) => {
                 if checks::is_key(t, l, frame) {
                     Act::Authenticated(s, l)
                 } else {
-                    Act::Refused(4)
+                    refused(Refusal::WrongKey)
                 }
             }
         }
     } else {
-        Act::Refused(2)
+        refused(Refusal::NoBlock)
     }
 }
 
@@ -79,12 +79,12 @@ fn block_of(c: Command) -> Block
 }
 
 // A Transfer after the shared checks: 9, and then the register goes into the block.
-fn transfer(register: Register, b: Block) -> Act
+fn transfer(register: Option<(u32, u8)>, b: Block) -> Act
     ensures { result ≡ ruled (first (check 9 (is_empty register) ∷ [])) (move_of register b) }
 {
     match register {
-        Register::Empty => Act::Refused(9),
-        Register::Full(v, a) => Act::Moved(b, v, a),
+        None => refused(Refusal::EmptyRegister),
+        Some((v, a)) => Act::Moved(b, v, a),
     }
 }
 
@@ -96,21 +96,21 @@ pub(crate) fn perform(image: &[u8], s: Session, c: Command, frame: &[u8]) -> Act
     let auth = s.auth;
     let register = s.register;
     match checks::memory_verdict(image, auth, column_of(c), block_of(c)) {
-        Verdict::Refuse(n) => Act::Refused(n),
-        Verdict::InParts(m) => match c {
+        Err(r) => refused(r),
+        Ok(Grant::InParts(m)) => match c {
             Command::Read(b) => Act::TrailerShown(b, m),
             Command::Write(b) => Act::WriteWaits(b),
             Command::Store(b) => Act::TrailerStored(b, m),
-            _ => Act::Refused(6),
+            _ => refused(Refusal::Forbidden),
         },
-        Verdict::Whole => match c {
+        Ok(Grant::Whole) => match c {
             Command::Read(b) => Act::Shown(b),
             Command::Write(b) => Act::WriteWaits(b),
             Command::Store(b) => Act::Stored(b),
             Command::Begin(b, k) => values::begin(image, k, b),
             Command::Apply(b, k) => values::apply(image, k, b, frame),
             Command::Transfer(b) => transfer(register, b),
-            _ => Act::Refused(1),
+            _ => refused(Refusal::Unknown),
         },
     }
 }

@@ -5,38 +5,39 @@ ghost use Rattle.judge.specs.First.{check, first, ruled};
 ghost use Rattle.judge.specs.Checks.{no_value};
 ghost use Rattle.judge.specs.Judge.{total_for, load_of, applied_of};
 
-use crate::Act;
+use crate::{Act, Refusal, refused};
 use layout::Block;
 use session::Kind;
-use value::{Decoded, Total};
+use value::SumError;
 
 // A value operation's first frame after the shared checks: 8, and then its second frame is awaited.
 pub(crate) fn begin(image: &[u8], k: Kind, b: Block) -> Act
     ensures { result ≡ ruled (first (check 8 (no_value image.now b) ∷ [])) (Act.ValueWaits b k) }
 {
     match value::decode(memory::content(image, b)) {
-        Decoded::NoValue => Act::Refused(8),
-        Decoded::Value(_, _) => Act::ValueWaits(b, k),
+        None => refused(Refusal::NoValue),
+        Some(_) => Act::ValueWaits(b, k),
     }
 }
 
-fn total(k: Kind, value: u32, operand: u32) -> Total
+fn total(k: Kind, value: u32, operand: u32) -> Result<u32, SumError>
     ensures { result ≡ total_for k value operand }
 {
     match k {
         Kind::Increment => value::plus(value, operand),
         Kind::Decrement => value::minus(value, operand),
-        Kind::Restore => Total::Fits(value),
+        Kind::Restore => Ok(value),
     }
 }
 
-fn load(t: Total, address: u8) -> Act
+#[tactic(auto, unfolding(crate::specs::Judge::load_of))]
+fn load(t: Result<u32, SumError>, address: u8) -> Act
     ensures { result ≡ load_of t address }
 {
     match t {
-        Total::Fits(v) => Act::Loaded(v, address),
-        Total::Negative => Act::Refused(13),
-        Total::Outside => Act::Refused(10),
+        Ok(v) => Act::Loaded(v, address),
+        Err(SumError::Negative) => refused(Refusal::NegativeOperand),
+        Err(SumError::Outside) => refused(Refusal::OutOfRange),
     }
 }
 
@@ -55,7 +56,7 @@ pub(crate) fn apply(image: &[u8], k: Kind, b: Block, frame: &[u8]) -> Act
 {
     let operand = operand_of(frame);
     match value::decode(memory::content(image, b)) {
-        Decoded::NoValue => Act::Refused(8),
-        Decoded::Value(v, a) => load(total(k, v, operand), a),
+        None => refused(Refusal::NoValue),
+        Some((v, a)) => load(total(k, v, operand), a),
     }
 }

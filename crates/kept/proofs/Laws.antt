@@ -1,5 +1,6 @@
 -- The ways of a frame with its figures: what is judged early, what is stored, and that the code's shortcut changes nothing of it.
 -- Assumes nothing.
+use Rattle.std.proofs.Common.{Err, None, Ok, Option, Result, Some}
 use mathlib.Core.Path.{◌≡◌, refl, sym, ◌∙◌, ap}
 use mathlib.Core.Bool.{Bool, true, false, not, cond, ◌&&◌, ◌||◌}
 use mathlib.Core.List.{List, [], ◌∷◌, ◌++◌}
@@ -8,14 +9,12 @@ use Prim.Native.Nat.{ℕ}
 use native.Mathlib.Omega.{arith}
 use lib.Dec.{eqb}
 use lib.ListN.{length}
-use borrow.Author.Tests.{not-true, not-false}
 use Rattle.layout.specs.Layout.{is_trailer}
 use Rattle.layout.specs.declared.Block.{Block}
-use Rattle.session.specs.declared.Register.{Register}
-use Rattle.session.specs.declared.Register.TheVariants.{Empty, Full}
+use Rattle.session.specs.Session.{Register}
 use Rattle.session.specs.declared.Session.{Session}
-use Rattle.value.specs.declared.sum.Total.{Total}
-use Rattle.value.specs.declared.sum.Total.TheVariants as total
+use Rattle.value.specs.declared.sum.SumError.{SumError}
+use Rattle.value.specs.declared.sum.SumError.TheVariants as total
 use Rattle.frame.specs.Command.{byte_in, command_of}
 use Rattle.frame.specs.declared.Command.{Command}
 use Rattle.frame.specs.declared.Command.TheVariants.{Unknown, Authenticate, Read, Write, Store, Begin, Apply, Transfer, Halt}
@@ -30,26 +29,23 @@ use Rattle.card.proofs.Short.{short_image}
 use Rattle.sealed.specs.Sealed.{inner_of, unsealed}
 use Rattle.edition.specs.Edition.{usage_of, wrong_size}
 use Rattle.edition.specs.declared.CardRecord.{CardRecord}
-use Rattle.edition.specs.declared.Choice.{Choice}
-use Rattle.edition.specs.declared.Choice.TheVariants.{Open, Locked}
-use Rattle.edition.specs.declared.Asked.{Asked}
-use Rattle.edition.specs.declared.Asked.TheVariants as asked
+use Rattle.edition.specs.Edition.{Choice}
 use Rattle.either_card.specs.Personal.{read_zero, chosen, choosing}
 use Rattle.either_card.specs.Either.{personal, card_act_of, sealed_card_act_of, given_for}
 use Rattle.either_card.proofs.Laws.{short_given, refusal_given}
 use Rattle.either_card.proofs.Sealed.{inner_card_act}
 use Rattle.tally.specs.Change.{in_range}
 use Rattle.tally.specs.declared.change.Figures.{Figures}
-use Rattle.tally.specs.declared.change.Settled.{Settled}
-use Rattle.tally.specs.declared.change.Settled.TheVariants.{Kept, Outside}
+use Rattle.std.specs.Prelude.{Option, Some, None}
 use Rattle.tally.proofs.Laws.{not_counted}
 use Rattle.kept.specs.Kept.{settled_at, settled_by, lastly, figures_by, kept_checks, kept_act_of, kept_for, kept_answer_of, kept_image_after, sealed_kept, sealed_kept_image_after}
 use Rattle.kept.specs.Code.{refused_kept, after12}
-use Rattle.kept.specs.declared.KeptAnswer.{KeptAnswer}
+use Rattle.kept.specs.Answers.{KeptAnswer}
+use Rattle.edition.specs.declared.Usage.{Usage}
 
 -- of the acts only two bring new content
 pub others : (image : List ℕ) (f : Figures) (act : Act) (frame : List ℕ)
-    → ((b : Block) → act ≡ Stored b → ⊥) → ((b : Block) (v a : ℕ) → act ≡ Moved b v a → ⊥) → Kept f ≡ settled_by image f act frame
+    → ((b : Block) → act ≡ Stored b → ⊥) → ((b : Block) (v a : ℕ) → act ≡ Moved b v a → ⊥) → Some f ≡ settled_by image f act frame
 unfolding settled_by
 others image f (Refused n) frame h j = refl
 others image f (Authenticated t l) frame h j = refl
@@ -82,16 +78,16 @@ unfolding ruled
 trailing_ruled passes act h = h
 trailing_ruled (refuses n) act h = tt
 
-trailing_load : (t : Total) (a : ℕ) → Trailing (load_of t a)
+trailing_load : (t : Result ℕ SumError) (a : ℕ) → Trailing (load_of t a)
 unfolding load_of
-trailing_load (total.Fits v) a = tt
-trailing_load total.Negative a = tt
-trailing_load total.Outside a = tt
+trailing_load (Ok v) a = tt
+trailing_load (Err total.Negative) a = tt
+trailing_load (Err total.Outside) a = tt
 
 trailing_move : (r : Register) (b : Block) → Trailing (move_of r b)
 unfolding move_of
-trailing_move Empty b = tt
-trailing_move (Full v a) b = tt
+trailing_move None b = tt
+trailing_move (Some (v, a)) b = tt
 
 trailing_shown : (image : List ℕ) (b : Block) → Trailing (shown_of image b)
 unfolding shown_of
@@ -125,15 +121,15 @@ trailing_judged : (image : List ℕ) (s : Session) (frame : List ℕ) → Traili
 unfolding judge_of commanded_of
 trailing_judged image s frame = trailing_ruled _ _ (trailing_ruled _ _ (trailing_done image s _ frame))
 
-trailing_chosen : (x : Choice) (u : Asked) (n : ℕ) → Trailing (choosing x u n)
+trailing_chosen : (x : Choice) (u : Option Usage) (n : ℕ) → Trailing (choosing x u n)
 unfolding choosing
 trailing_chosen x u n = go (eqb n 0) x u
   where
-    go : (t : Bool) (x : Choice) (u : Asked) → Trailing (cond t (chosen x u) (Refused n))
+    go : (t : Bool) (x : Choice) (u : Option Usage) → Trailing (cond t (chosen x u) (Refused n))
     go false x u = tt
-    go true x asked.Unknown = tt
-    go true Open (asked.For u) = tt
-    go true (Locked v) (asked.For u) = tt
+    go true x None = tt
+    go true None (Some u) = tt
+    go true (Some v) (Some u) = tt
 
 pub trailing_card : (image : List ℕ) (k : CardRecord) (s : Session) (frame : List ℕ) → Trailing (card_act_of image k s frame)
 unfolding card_act_of
@@ -162,7 +158,7 @@ module _ (image : List ℕ) (k : CardRecord) (f : Figures) (s : Session) (frame 
       out true = refl
       out false = refl
 
-      go : (t : Bool) → settled_by image f (cond t (Stored b) (TrailerStored b m)) frame ≡ Kept f
+      go : (t : Bool) → settled_by image f (cond t (Stored b) (TrailerStored b m)) frame ≡ Some f
       go true = rw (not_counted (length image) b (ap (λ (t : Bool). eqb b.0 0 || t) h ∙ out (eqb b.0 0)))
       go false = refl
   short_settled (Loaded v a) h = refl
@@ -170,7 +166,7 @@ module _ (image : List ℕ) (k : CardRecord) (f : Figures) (s : Session) (frame 
   short_settled Halted h = refl
 
   -- an act and what is left of it: the answer, the figures and the image of the code are those of what the act comes to
-  pub kept_way : (last p a : Act) → a ≡ shortened s.auth p → Trailing p → last ≡ lastly (settled_by image f p frame) p → (x : Settled) → x ≡ settled_by image f a frame
+  pub kept_way : (last p a : Act) → a ≡ shortened s.auth p → Trailing p → last ≡ lastly (settled_by image f p frame) p → (x : Option Figures) → x ≡ settled_by image f a frame
       → (◌≡◌ {A = KeptAnswer} (record { answer = given_for image k s frame (lastly x a); figures = figures_by x f }) (kept_for image k f s frame last))
       × (image_of image s.auth (lastly x a) frame ≡ image_of image s.auth last frame)
   unfolding kept_for image_of settled_by
@@ -178,12 +174,12 @@ module _ (image : List ℕ) (k : CardRecord) (f : Figures) (s : Session) (frame 
       let short : x ≡ settled_by image f p frame = ex ∙ ap (λ (y : Act). settled_by image f y frame) ea ∙ short_settled p h in
       rw (el, ea, ← short) (go x (sym short))
     where
-      go : (x : Settled) → settled_by image f p frame ≡ x
+      go : (x : Option Figures) → settled_by image f p frame ≡ x
           → (◌≡◌ {A = KeptAnswer} (record { answer = given_for image k s frame (lastly x (shortened s.auth p)); figures = figures_by x f })
           (record { answer = given_for image k s frame (lastly x p); figures = figures_by (settled_by image f (lastly x p) frame) f }))
           × (image_of image s.auth (lastly x (shortened s.auth p)) frame ≡ image_of image s.auth (lastly x p) frame)
-      go (Kept g) e = (rw (short_given image k s frame p, e), short_image image s frame p)
-      go Outside e = (refl, refl)
+      go (Some g) e = (rw (short_given image k s frame p, e), short_image image s frame p)
+      go None e = (refl, refl)
 
 -- 11 and 12 are judged by the entries themselves
 outcome : Outcome → ℕ
@@ -253,7 +249,7 @@ module _ (image : List ℕ) (k : CardRecord) (f : Figures) (s : Session) (frame 
   pub step_way : (t : Bool) → t ≡ in_range f → (a : Act)
       → ((t ≡ true) × (a ≡ shortened s.auth (card_act_of image k s frame)))
       ⊎ ((t ≡ false) × (n : ℕ) × (first (check 11 (wrong_size k.edition (length image)) ∷ (frame_checks image s ++ (check 29 true ∷ []))) ≡ refuses n) × (a ≡ Refused n))
-      → (x : Settled) → x ≡ settled_by image f a frame
+      → (x : Option Figures) → x ≡ settled_by image f a frame
       → (◌≡◌ {A = KeptAnswer} (record { answer = given_for image k s frame (lastly x a); figures = figures_by x f }) (kept_answer_of image k f s frame))
       × (image_of image s.auth (lastly x a) frame ≡ kept_image_after image k f s frame)
   unfolding kept_answer_of kept_image_after settled_by shortened
@@ -263,12 +259,12 @@ module _ (image : List ℕ) (k : CardRecord) (f : Figures) (s : Session) (frame 
       kept_way image k f s frame _ (Refused w.1) a w.3 tt (out_of_range (sym told ∙ w.0) (card_act_of image k s frame) w.1 w.2) x e
 
 -- with its checksum: the inner bytes' own act, or the refusal
-module _ (image : List ℕ) (k : CardRecord) (f : Figures) (s : Session) (frame : List ℕ) (t : Bool) (told : t ≡ not (unsealed frame)) where
-  pub with_seal_lem : t ≡ true
+module _ (image : List ℕ) (k : CardRecord) (f : Figures) (s : Session) (frame : List ℕ) where
+  pub with_seal_lem : unsealed frame ≡ false
       → (kept_answer_of image k f s (inner_of frame) ≡ kept_for image k f s (inner_of frame) (sealed_kept image k f s frame))
       × (kept_image_after image k f s (inner_of frame) ≡ sealed_kept_image_after image k f s frame)
   unfolding kept_answer_of kept_image_after sealed_kept_image_after
-  with_seal_lem e = rw (inner_card_act image k s frame (not-true (unsealed frame) (sym told ∙ e))) (refl, refl)
+  with_seal_lem e = rw (inner_card_act image k s frame e) (refl, refl)
 
   refused_kept_lem : unsealed frame ≡ true → (n : ℕ)
       → first (check 11 (wrong_size k.edition (length image)) ∷ (frame_checks image s ++ (check (after12 f) true ∷ []))) ≡ refuses n
@@ -291,10 +287,10 @@ module _ (image : List ℕ) (k : CardRecord) (f : Figures) (s : Session) (frame 
       go false false false true q = let e : 14 ≡ n = ap outcome q in rw (← e) (refl, refl)
       go false false false false q = let e : 29 ≡ n = ap outcome q in rw (← e) (refl, refl)
 
-  pub without_seal : t ≡ false → (n : ℕ)
+  pub without_seal : unsealed frame ≡ true → (n : ℕ)
       → first (check 11 (wrong_size k.edition (length image)) ∷ (frame_checks image s ++ (check (after12 f) true ∷ []))) ≡ refuses n
       → (refused_kept k f s n ≡ kept_for image k f s (inner_of frame) (sealed_kept image k f s frame)) × (image ≡ sealed_kept_image_after image k f s frame)
   unfolding refused_kept kept_for sealed_kept_image_after image_of settled_by
   without_seal e n q =
-      let r = refused_kept_lem (not-false (unsealed frame) (sym told ∙ e)) n q in
+      let r = refused_kept_lem e n q in
       (rw (r.0, refusal_given image k s (inner_of frame) n r.1), rw r.0)

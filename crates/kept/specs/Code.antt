@@ -6,7 +6,7 @@ use Rattle.edition.specs.declared.CardRecord.{CardRecord}
 use Rattle.either_card.specs.Code.{given_of}
 use Rattle.tally.specs.Change.{in_range}
 use Rattle.tally.specs.declared.change.Figures.{Figures}
-use Rattle.kept.specs.declared.KeptAnswer.{KeptAnswer}
+use Rattle.kept.specs.Answers.{KeptAnswer}
 
 -- a refusal, with the figures as they came
 unfoldable pub refused_kept : CardRecord → Figures → Session → ℕ → KeptAnswer

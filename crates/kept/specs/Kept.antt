@@ -1,5 +1,5 @@
 -- A card with its figures: what a frame makes of them, and where 29 refuses.
-use Rattle.std.specs.Prelude.{not, cond, List, [], ◌∷◌, ◌++◌, ℕ, length}
+use Rattle.std.specs.Prelude.{not, cond, List, [], ◌∷◌, ◌++◌, ℕ, length, Option, Some, None}
 use Rattle.layout.specs.declared.Block.{Block}
 use Rattle.memory.specs.Memory.{sixteen_of, content_of}
 use Rattle.value.specs.Whole.{signed}
@@ -17,38 +17,35 @@ use Rattle.either_card.specs.Either.{card_act_of, sealed_card_act_of, given_for,
 use Rattle.tally.specs.Change.{in_range, settled_of}
 use Rattle.tally.specs.Full.{counts}
 use Rattle.tally.specs.declared.change.Figures.{Figures}
-use Rattle.tally.specs.declared.change.Settled.{Settled}
-use Rattle.tally.specs.declared.change.Settled.TheVariants.{Kept, Outside}
-use Rattle.kept.specs.declared.KeptAnswer.{KeptAnswer}
-use Rattle.kept.specs.declared.sealing.SealedKeptAnswer.{SealedKeptAnswer}
+use Rattle.kept.specs.Answers.{KeptAnswer}
 
 -- new content of a block settles the figures anew where the block counts
-unfoldable pub settled_at : List ℕ → Figures → Block → List ℕ → Settled
-settled_at image f b new = cond (counts (length image) b) (settled_of f (content_of image b) new) (Kept f)
+unfoldable pub settled_at : List ℕ → Figures → Block → List ℕ → Option Figures
+settled_at image f b new = cond (counts (length image) b) (settled_of f (content_of image b) new) (Some f)
 
 -- an accepted Write or Transfer brings new content; nothing else moves the figures
-unfoldable pub settled_by : List ℕ → Figures → Act → List ℕ → Settled
-settled_by image f (Refused n) frame = Kept f
-settled_by image f (Authenticated t l) frame = Kept f
-settled_by image f (Shown b) frame = Kept f
-settled_by image f (TrailerShown b m) frame = Kept f
-settled_by image f (WriteWaits b) frame = Kept f
-settled_by image f (ValueWaits b k) frame = Kept f
+unfoldable pub settled_by : List ℕ → Figures → Act → List ℕ → Option Figures
+settled_by image f (Refused n) frame = Some f
+settled_by image f (Authenticated t l) frame = Some f
+settled_by image f (Shown b) frame = Some f
+settled_by image f (TrailerShown b m) frame = Some f
+settled_by image f (WriteWaits b) frame = Some f
+settled_by image f (ValueWaits b k) frame = Some f
 settled_by image f (Stored b) frame = settled_at image f b (sixteen_of frame)
-settled_by image f (TrailerStored b m) frame = Kept f
-settled_by image f (Loaded v a) frame = Kept f
+settled_by image f (TrailerStored b m) frame = Some f
+settled_by image f (Loaded v a) frame = Some f
 settled_by image f (Moved b v a) frame = settled_at image f b (encode_of (signed v) a)
-settled_by image f Halted frame = Kept f
+settled_by image f Halted frame = Some f
 
 -- 29, last of all: the new figures would leave their ranges
-abbrev pub lastly : Settled → Act → Act
-lastly (Kept g) act = act
-lastly Outside act = Refused 29
+abbrev pub lastly : Option Figures → Act → Act
+lastly (Some g) act = act
+lastly None act = Refused 29
 
 -- the figures afterwards: the new ones, or those that were given
-abbrev pub figures_by : Settled → Figures → Figures
-figures_by (Kept g) f = g
-figures_by Outside f = f
+abbrev pub figures_by : Option Figures → Figures → Figures
+figures_by (Some g) f = g
+figures_by None f = f
 
 -- what is judged before anything else: 11, 12, and 29 for figures outside their ranges
 unfoldable pub kept_checks : List ℕ → CardRecord → Figures → Session → List Check
@@ -76,10 +73,10 @@ kept_image_after image k f s frame = image_of image s.auth (bare_kept image k f 
 abbrev pub sealed_kept : List ℕ → CardRecord → Figures → Session → List ℕ → Act
 sealed_kept image k f s frame = kept_act_of image k f s (inner_of frame) (sealed_card_act_of image k s frame)
 
-unfoldable pub sealed_kept_of : KeptAnswer → SealedKeptAnswer
+unfoldable pub sealed_kept_of : KeptAnswer → KeptAnswer
 sealed_kept_of a = record { answer = sealed_card_of a.answer; figures = a.figures }
 
-unfoldable pub sealed_kept_answer_of : List ℕ → CardRecord → Figures → Session → List ℕ → SealedKeptAnswer
+unfoldable pub sealed_kept_answer_of : List ℕ → CardRecord → Figures → Session → List ℕ → KeptAnswer
 sealed_kept_answer_of image k f s frame = sealed_kept_of (kept_for image k f s (inner_of frame) (sealed_kept image k f s frame))
 
 unfoldable pub sealed_kept_image_after : List ℕ → CardRecord → Figures → Session → List ℕ → List ℕ

@@ -1,9 +1,10 @@
 // A card with its record and with the figures of its value blocks.
 #![tactic(auto)]
 
-ghost use Rattle.std.specs.Prelude.{◌≡◌, cond, true, [], ◌∷◌, ◌++◌, length};
+ghost use Rattle.std.specs.Prelude.{◌≡◌, true, [], ◌∷◌, ◌++◌, length};
 ghost use Rattle.judge.specs.First.{check, first, refuses};
 ghost use Rattle.judge.specs.Checks.{frame_checks};
+ghost use Rattle.judge.specs.Code.{refusal_number};
 ghost use Rattle.edition.specs.Edition.{wrong_size};
 ghost use Rattle.kept.specs.Kept.{kept_answer_of, kept_image_after, kept_reset_of, kept_no_session_of};
 
@@ -12,36 +13,36 @@ mod settle;
 
 use edition::CardRecord;
 use either_card::CardAnswer;
-use judge::Act;
+use judge::Refusal;
 pub use sealing::{SealedKeptAnswer, sealed_no_session, sealed_step};
 use session::Session;
 use tally::Figures;
 
 // The answer with its record, and the figures afterwards.
 #[derive(Clone, Copy)]
-pub struct KeptAnswer {
-    pub answer: CardAnswer,
+pub struct KeptAnswer<R = [u8; 16]> {
+    pub answer: CardAnswer<R>,
     pub figures: Figures,
 }
 
-// The first of 11 and 12 that applies; where none does, the number that stands after them.
-fn early_refusal(k: CardRecord, image: &[u8], s: Session, after: u8) -> u8
-    ensures { first (check 11 (wrong_size k.edition (length image.now)) ∷ (frame_checks image.now s ++ (check after true ∷ []))) ≡ refuses result }
+// The first of 11 and 12 that applies; where none does, the refusal that stands after them.
+fn early_refusal(k: CardRecord, image: &[u8], s: Session, after: Refusal) -> Refusal
+    ensures { first (check 11 (wrong_size k.edition (length image.now)) ∷ (frame_checks image.now s ++ (check (refusal_number after) true ∷ []))) ≡ refuses (refusal_number result) }
 {
-    let edition = k.edition;
-    if edition::is_wrong_size(edition, image.len()) {
-        return 11;
+    if edition::is_wrong_size(k.edition, image.len()) {
+        return Refusal::NoCard;
     }
     if layout::sectors_of(image.len()) == 0 {
-        return 11;
+        return Refusal::NoCard;
     }
     if session::is_coherent(image.len(), s) {
         return after;
     }
-    12
+    Refusal::Incoherent
 }
 
 // Any image, any record, any figures, any session, any frame: the answer, and the image as it is afterwards.
+// Record, figures and session are parameters of their own, and no struct, as in `either_card`.
 pub fn step(image: &mut [u8], k: CardRecord, f: Figures, s: Session, frame: &[u8]) -> KeptAnswer
     ensures value { result ≡ kept_answer_of image.old k f s frame.now }
     ensures image_after { image.new ≡ kept_image_after image.old k f s frame.now }
@@ -49,7 +50,7 @@ pub fn step(image: &mut [u8], k: CardRecord, f: Figures, s: Session, frame: &[u8
     let act = if tally::in_range(f) {
         either_card::judge(&image[..], k, s, frame)
     } else {
-        Act::Refused(early_refusal(k, &image[..], s, 29))
+        judge::refused(early_refusal(k, &image[..], s, Refusal::FiguresOutside))
     };
     let settled = settle::settled_by(&image[..], f, act, frame);
     let figures = settle::figures_by(settled, f);

@@ -1,46 +1,43 @@
 // The same for frames with their checksum.
 ghost use Rattle.std.specs.Prelude.{◌≡◌};
+ghost use Rattle.judge.specs.Code.{refusal_number};
 ghost use Rattle.kept.specs.Code.{refused_kept, after12};
 ghost use Rattle.kept.specs.Kept.{sealed_kept_of, sealed_kept_answer_of, sealed_kept_image_after, kept_no_session_of};
 
 use crate::{KeptAnswer, early_refusal, no_session, step};
 use edition::CardRecord;
-use either_card::SealedCardAnswer;
+use judge::Refusal;
 use session::Session;
 use tally::Figures;
 
-// The answer with its record, and the figures afterwards.
-#[derive(Clone, Copy)]
-pub struct SealedKeptAnswer {
-    pub answer: SealedCardAnswer,
-    pub figures: Figures,
-}
+// An answer whose reply has its checksum, or room for it, with its record, and the figures afterwards.
+pub type SealedKeptAnswer = KeptAnswer<[u8; 18]>;
 
 fn sealed_kept(a: KeptAnswer) -> SealedKeptAnswer
     ensures { result ≡ sealed_kept_of a }
 {
-    let bare = a.answer;
-    let figures = a.figures;
-    let answer = either_card::sealed_card(bare);
-    SealedKeptAnswer { answer, figures }
+    KeptAnswer {
+        answer: either_card::sealed_card(a.answer),
+        figures: a.figures,
+    }
 }
 
 // A refusal gives the figures back as they came.
-fn refused(k: CardRecord, f: Figures, s: Session, n: u8) -> KeptAnswer
-    ensures { result ≡ refused_kept k f s n }
+fn refused(k: CardRecord, f: Figures, s: Session, r: Refusal) -> KeptAnswer
+    ensures { result ≡ refused_kept k f s (refusal_number r) }
 {
-    let answer = either_card::refusal(k, s, n);
+    let answer = either_card::refusal(k, s, r.number());
     KeptAnswer { answer, figures: f }
 }
 
 // 29 stands before 14.
-fn after_12(f: Figures) -> u8
-    ensures { result ≡ after12 f }
+fn after_12(f: Figures) -> Refusal
+    ensures { refusal_number result ≡ after12 f }
 {
     if tally::in_range(f) {
-        return 14;
+        return Refusal::WrongChecksum;
     }
-    29
+    Refusal::FiguresOutside
 }
 
 // Any image, any record, any figures, any session, any frame: the answer, and the image as it is afterwards.
@@ -54,11 +51,9 @@ pub fn sealed_step(
     ensures value { result ≡ sealed_kept_answer_of image.old k f s frame.now }
     ensures image_after { image.new ≡ sealed_kept_image_after image.old k f s frame.now }
 {
-    let a = if sealed::is_sealed(frame) {
-        let end = frame.len() - 2;
-        step(image, k, f, s, &frame[..end])
-    } else {
-        refused(k, f, s, early_refusal(k, &image[..], s, after_12(f)))
+    let a = match sealed::inner(frame) {
+        Some(bare) => step(image, k, f, s, bare),
+        None => refused(k, f, s, early_refusal(k, &image[..], s, after_12(f))),
     };
     sealed_kept(a)
 }

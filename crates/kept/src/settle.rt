@@ -2,12 +2,12 @@
 ghost use Rattle.std.specs.Prelude.{◌≡◌};
 ghost use Rattle.kept.specs.Kept.{settled_at, settled_by, lastly, figures_by};
 
-use judge::Act;
+use judge::{Act, Refusal};
 use layout::Block;
-use tally::{Figures, Settled};
+use tally::Figures;
 
 // New content of a block. One that the image lacks is never stored into; block 0 and the trailers do not count.
-fn settled_at(image: &[u8], f: Figures, b: Block, new: [u8; 16]) -> Settled
+fn settled_at(image: &[u8], f: Figures, b: Block, new: [u8; 16]) -> Option<Figures>
     ensures { result ≡ settled_at image.now f b new }
 {
     let has = layout::has_block(image.len(), b);
@@ -15,35 +15,32 @@ fn settled_at(image: &[u8], f: Figures, b: Block, new: [u8; 16]) -> Settled
     if has & !out {
         return tally::after(f, memory::content(image, b), new);
     }
-    Settled::Kept(f)
+    Some(f)
 }
 
 // Only what a Write or a Transfer stores moves the figures.
-pub(crate) fn settled_by(image: &[u8], f: Figures, act: Act, frame: &[u8]) -> Settled
+pub(crate) fn settled_by(image: &[u8], f: Figures, act: Act, frame: &[u8]) -> Option<Figures>
     ensures { result ≡ settled_by image.now f act frame.now }
 {
     match act {
         Act::Stored(b) => settled_at(image, f, b, memory::sixteen(frame)),
         Act::Moved(b, v, a) => settled_at(image, f, b, value::encode(v, a)),
-        _ => Settled::Kept(f),
+        _ => Some(f),
     }
 }
 
 // The act, or 29 in its place.
-pub(crate) fn lastly(settled: Settled, act: Act) -> Act
+pub(crate) fn lastly(settled: Option<Figures>, act: Act) -> Act
     ensures { result ≡ lastly settled act }
 {
     match settled {
-        Settled::Kept(_) => act,
-        Settled::Outside => Act::Refused(29),
+        Some(_) => act,
+        None => judge::refused(Refusal::FiguresOutside),
     }
 }
 
-pub(crate) fn figures_by(settled: Settled, f: Figures) -> Figures
+pub(crate) fn figures_by(settled: Option<Figures>, f: Figures) -> Figures
     ensures { result ≡ figures_by settled f }
 {
-    match settled {
-        Settled::Kept(g) => g,
-        Settled::Outside => f,
-    }
+    settled.unwrap_or(f)
 }

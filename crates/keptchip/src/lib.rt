@@ -1,38 +1,17 @@
 // The boundary for a card with its record and its figures, to a board that hands frames over as its reader chip does. The field reset is `keptedge`'s.
 #![tactic(auto)]
 
-ghost use Rattle.std.specs.Prelude.{◌≡◌, ◌<◌};
+ghost use Rattle.std.specs.Prelude.{◌≡◌};
 ghost use Rattle.record.specs.Record.{record_of, session_from};
+ghost use Rattle.crossing.specs.Crossing.{packed_with};
 ghost use Rattle.kept.specs.Kept.{sealed_kept_answer_of, sealed_kept_image_after};
-ghost use Rattle.keptchip.specs.KeptChip.{packed_with, kept_sealed_of, kept_sealed_image};
+ghost use Rattle.keptchip.specs.KeptChip.{kept_sealed_of, kept_sealed_image};
 
 use edition::CardRecord;
 use kept::SealedKeptAnswer;
-use sealed::SealedAnswer;
 use tally::Figures;
 
-fn wide(b: u8) -> u32
-    ensures { (result ≡ b) × (result < 256) }
-{
-    b as u32
-}
-
-// An answer handed over: its session as a record, its reply, and number, sign and value in one.
-fn give(a: SealedAnswer, nak: u8, session: &mut [u8; 12], reply: &mut [u8; 18]) -> u32
-    ensures value { result ≡ packed_with a.number a.sign nak }
-    ensures session_after { session.new ≡ record_of a.session }
-    ensures reply_after { reply.new ≡ a.reply }
-{
-    let next = a.session;
-    let bytes = a.reply;
-    let sign = a.sign;
-    let number = a.number;
-    *session = record::encode(next);
-    *reply = bytes;
-    wide(number) + 256 * wide(card::sign_code(sign)) + 65536 * wide(nak)
-}
-
-// The answer for the session that twelve bytes hold, or for none.
+// The answer for the session that twelve bytes hold, or for none. Every boundary has its own: each calls another step, and two closures could not both hold the image.
 fn answer(
     image: &mut [u8],
     k: CardRecord,
@@ -44,12 +23,13 @@ fn answer(
     ensures image_after { image.new ≡ sealed_kept_image_after image.old k f (session_from session) frame.now }
 {
     match record::decode(session) {
-        record::Found::Session(s) => kept::sealed_step(image, k, f, s, frame),
-        record::Found::Nothing => kept::sealed_no_session(k, f, image.len()),
+        Some(s) => kept::sealed_step(image, k, f, s, frame),
+        None => kept::sealed_no_session(k, f, image.len()),
     }
 }
 
 // One frame with its checksum. The two records are replaced by the next ones, and the reply is filled.
+#[tactic(auto, unfolding(crate::specs::KeptChip::kept_sealed_of, crate::specs::KeptChip::kept_sealed_image))]
 pub fn tirlwheel_kept_sealed_frame(
     image: &mut [u8],
     card: &mut [u8; 4],
@@ -66,18 +46,14 @@ pub fn tirlwheel_kept_sealed_frame(
     ensures image_after { image.new ≡ kept_sealed_image image.old card.old figures.old session.old frame.now }
 {
     match edition::decode(*card) {
-        edition::Found::Card(k) => {
+        Some(k) => {
             let f = tally::decode(*figures);
             let a = answer(image, k, f, *session, frame);
-            let after = a.figures;
             let carded = a.answer;
-            let next = carded.card;
-            let told = carded.answer;
-            let nak = carded.nak;
-            *card = edition::encode(next);
-            *figures = tally::encode(after);
-            give(told, nak, session, reply)
+            *card = edition::encode(carded.card);
+            *figures = tally::encode(a.figures);
+            crossing::give(carded.answer, carded.nak, session, reply)
         }
-        edition::Found::Nothing => give(sealed::sealed(card::refusal(11)), 0, session, reply),
+        None => crossing::give(sealed::sealed(card::refusal(11)), 0, session, reply),
     }
 }

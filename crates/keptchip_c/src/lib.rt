@@ -3,7 +3,8 @@
 
 ghost use Rattle.std.specs.Prelude.{◌≡◌};
 ghost use Rattle.record.specs.Record.{record_of};
-ghost use Rattle.keptchip.specs.KeptChip.{packed_with, kept_sealed_of, kept_sealed_image};
+ghost use Rattle.crossing.specs.Crossing.{packed_with};
+ghost use Rattle.keptchip.specs.KeptChip.{kept_sealed_of, kept_sealed_image};
 
 // One frame with its checksum. The two records are replaced by the next ones, and the reply is filled.
 #[unsafe(no_mangle)]

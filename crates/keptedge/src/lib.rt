@@ -1,39 +1,18 @@
 // The boundary to C and Rust for a card with its record and its figures: four and sixteen lent bytes beside the image.
 #![tactic(auto)]
 
-ghost use Rattle.std.specs.Prelude.{◌≡◌, ◌<◌};
+ghost use Rattle.std.specs.Prelude.{◌≡◌};
 ghost use Rattle.card.specs.Step.{reset_of};
 ghost use Rattle.record.specs.Record.{record_of, session_from};
+ghost use Rattle.crossing.specs.Crossing.{packed_with};
 ghost use Rattle.kept.specs.Kept.{kept_answer_of, kept_image_after};
-ghost use Rattle.keptedge.specs.KeptEdge.{packed_with, kept_frame_of, kept_frame_image};
+ghost use Rattle.keptedge.specs.KeptEdge.{kept_frame_of, kept_frame_image};
 
-use card::Answer;
 use edition::CardRecord;
 use kept::KeptAnswer;
 use tally::Figures;
 
-fn wide(b: u8) -> u32
-    ensures { (result ≡ b) × (result < 256) }
-{
-    b as u32
-}
-
-// An answer handed over: its session as a record, its reply, and number, sign and value in one.
-fn give(a: Answer, nak: u8, session: &mut [u8; 12], reply: &mut [u8; 16]) -> u32
-    ensures value { result ≡ packed_with a.number a.sign nak }
-    ensures session_after { session.new ≡ record_of a.session }
-    ensures reply_after { reply.new ≡ a.reply }
-{
-    let next = a.session;
-    let bytes = a.reply;
-    let sign = a.sign;
-    let number = a.number;
-    *session = record::encode(next);
-    *reply = bytes;
-    wide(number) + 256 * wide(card::sign_code(sign)) + 65536 * wide(nak)
-}
-
-// The answer for the session that twelve bytes hold, or for none.
+// The answer for the session that twelve bytes hold, or for none. Every boundary has its own: each calls another step, and two closures could not both hold the image.
 fn answer(
     image: &mut [u8],
     k: CardRecord,
@@ -45,12 +24,13 @@ fn answer(
     ensures image_after { image.new ≡ kept_image_after image.old k f (session_from session) frame.now }
 {
     match record::decode(session) {
-        record::Found::Session(s) => kept::step(image, k, f, s, frame),
-        record::Found::Nothing => kept::no_session(k, f, image.len()),
+        Some(s) => kept::step(image, k, f, s, frame),
+        None => kept::no_session(k, f, image.len()),
     }
 }
 
 // One frame. The two records and the figures are replaced by the next ones, and the reply is filled.
+#[tactic(auto, unfolding(crate::specs::KeptEdge::kept_frame_of, crate::specs::KeptEdge::kept_frame_image))]
 pub fn tirlwheel_kept_frame(
     image: &mut [u8],
     card: &mut [u8; 4],
@@ -67,19 +47,15 @@ pub fn tirlwheel_kept_frame(
     ensures image_after { image.new ≡ kept_frame_image image.old card.old figures.old session.old frame.now }
 {
     match edition::decode(*card) {
-        edition::Found::Card(k) => {
+        Some(k) => {
             let f = tally::decode(*figures);
             let a = answer(image, k, f, *session, frame);
-            let after = a.figures;
             let carded = a.answer;
-            let next = carded.card;
-            let told = carded.answer;
-            let nak = carded.nak;
-            *card = edition::encode(next);
-            *figures = tally::encode(after);
-            give(told, nak, session, reply)
+            *card = edition::encode(carded.card);
+            *figures = tally::encode(a.figures);
+            crossing::give(carded.answer, carded.nak, session, reply)
         }
-        edition::Found::Nothing => give(card::refusal(11), 0, session, reply),
+        None => crossing::give(card::refusal(11), 0, session, reply),
     }
 }
 
@@ -94,5 +70,5 @@ pub fn tirlwheel_kept_reset(
     ensures session_after { session.new ≡ record_of reset_of.session }
     ensures reply_after { reply.new ≡ reset_of.reply }
 {
-    give(card::field_reset(), 0, session, reply)
+    crossing::give(card::field_reset(), 0, session, reply)
 }

@@ -3,7 +3,8 @@
 
 ghost use Rattle.std.specs.Prelude.{◌≡◌};
 ghost use Rattle.record.specs.Record.{record_of};
-ghost use Rattle.keptedge.specs.KeptEdge.{packed_with, kept_frame_of, kept_frame_image};
+ghost use Rattle.crossing.specs.Crossing.{packed_with};
+ghost use Rattle.keptedge.specs.KeptEdge.{kept_frame_of, kept_frame_image};
 ghost use Rattle.card.specs.Step.{reset_of};
 
 // One frame. The two records and the figures are replaced by the next ones, and the reply is filled.

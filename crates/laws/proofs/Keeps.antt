@@ -1,5 +1,6 @@
 -- The principle for runs: what every accepted act keeps, every run keeps. Nothing above looks at the entry through which an event came.
 -- Assumes nothing.
+use Rattle.std.proofs.Common.{None, Option, Some}
 use mathlib.Core.Path.{◌≡◌, refl, sym, ◌∙◌, ap}
 use mathlib.Core.Bool.{Bool, true, false, cond, ◌&&◌, false≢true}
 use mathlib.Core.List.{List, [], ◌∷◌, ◌++◌}
@@ -22,10 +23,7 @@ use Rattle.card.specs.Effects.{number_of, reply_of}
 use Rattle.card.specs.Step.{answered}
 use Rattle.sealed.specs.Sealed.{inner_of, unsealed, sealed_of}
 use Rattle.edition.specs.Edition.{usage_of, wrong_size}
-use Rattle.edition.specs.declared.Choice.{Choice}
-use Rattle.edition.specs.declared.Choice.TheVariants.{Open, Locked}
-use Rattle.edition.specs.declared.Asked.{Asked}
-use Rattle.edition.specs.declared.Asked.TheVariants.{For, Unknown}
+use Rattle.edition.specs.Edition.{Choice}
 use Rattle.edition.specs.declared.CardRecord.{CardRecord}
 use Rattle.either_card.specs.Personal.{read_zero, chosen, choosing}
 use Rattle.either_card.specs.Either.{personal, card_act_of, sealed_card_act_of, given_for, card_answer_of, sealed_card_of, sealed_card_answer_of}
@@ -36,6 +34,7 @@ use Rattle.runs.specs.Watch.{noted, always}
 use Rattle.runs.proofs.Laws.{after_acts}
 use Rattle.laws.specs.Accepted.{Accepted}
 use Rattle.laws.proofs.Sound.{sound}
+use Rattle.edition.specs.declared.Usage.{Usage}
 
 pub both_true : (x y : Bool) → (x && y) ≡ true → (x ≡ true) × (y ≡ true)
 both_true true y e = (refl, e)
@@ -54,10 +53,10 @@ module _ (image : List ℕ) (k : CardRecord) (s : Session) (frame : List ℕ) wh
       go passes (refuses m) a z = absurd (a z)
       go passes passes a z = a
 
-  choice_accepted : s.stage ≡ Idle → (choice : Choice) (asked : Asked) → number_of (judge_of image s read_zero) ≡ 0 → Accepted image s frame (chosen choice asked)
-  choice_accepted w choice Unknown z = λ h. omega arith
-  choice_accepted w (Locked v) (For u) z = λ h. omega arith
-  choice_accepted w Open (For u) z = read_accepted w z
+  choice_accepted : s.stage ≡ Idle → (choice : Choice) (asked : Option Usage) → number_of (judge_of image s read_zero) ≡ 0 → Accepted image s frame (chosen choice asked)
+  choice_accepted w choice None z = λ h. omega arith
+  choice_accepted w (Some v) (Some u) z = λ h. omega arith
+  choice_accepted w None (Some u) z = read_accepted w z
 
   -- every act of a bare frame was accepted, or is a refusal
   card_sound : Accepted image s frame (card_act_of image k s frame)
@@ -67,7 +66,7 @@ module _ (image : List ℕ) (k : CardRecord) (s : Session) (frame : List ℕ) wh
       n : ℕ
       n = number_of (judge_of image s read_zero)
 
-      asked : Asked
+      asked : Option Usage
       asked = usage_of (byte_in frame 1)
 
       ruled_choice : s.stage ≡ Idle → (t : Bool) → eqb n 0 ≡ t → Accepted image s frame (cond t (chosen k.choice asked) (Refused n))

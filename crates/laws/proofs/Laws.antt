@@ -1,5 +1,6 @@
 -- What holds of every act, for any image, session and frame, through whichever entry it came.
 -- Assumes nothing.
+use Rattle.std.proofs.Common.{None, Some}
 use mathlib.Core.Path.{◌≡◌, refl, sym, ◌∙◌, ap}
 use mathlib.Core.Bool.{Bool, true, false, ◌||◌, false≢true}
 use mathlib.Core.List.{List}
@@ -21,8 +22,7 @@ use Rattle.value.specs.Whole.{signed}
 use Rattle.value.specs.Block.{encode_of}
 use Rattle.value.proofs.Blocks.{encode_length}
 use Rattle.session.specs.Session.{fresh_of, fits, coherent_of, in_sector}
-use Rattle.session.specs.declared.Auth.{Auth}
-use Rattle.session.specs.declared.Auth.TheVariants.{Nobody, As}
+use Rattle.session.specs.Session.{Auth}
 use Rattle.session.specs.declared.Session.{Session}
 use Rattle.judge.specs.Checks.{access_of, is_forbidden, writable_by}
 use Rattle.judge.specs.Judge.{trailer_bits}
@@ -64,15 +64,15 @@ trailer_sector bytes b h =
 -- a session whose authenticated sector is that of a block of the image is coherent
 in_own_sector : (bytes : ℕ) (b : Block) (auth : Auth) (quiet : Bool) → has_block bytes b ≡ true → in_sector auth (sector_of b) ≡ true → fits auth bytes quiet ≡ true
 unfolding in_sector
-in_own_sector bytes b Nobody quiet h e = absurd (false≢true e)
-in_own_sector bytes b (As t l) quiet h e =
+in_own_sector bytes b None quiet h e = absurd (false≢true e)
+in_own_sector bytes b (Some (t, l)) quiet h e =
     ap (λ (n : ℕ). has_sector bytes (sector_at n)) (eqb-true t.0 (sector_of b).0 e) ∙ has_sector_lem bytes b h
 
 -- a session has one authenticated sector
 one_sector : (auth : Auth) (t u : Sector) → in_sector auth t ≡ true → in_sector auth u ≡ true → t ≡ u
 unfolding in_sector
-one_sector Nobody t u p q = absurd (false≢true p)
-one_sector (As c l) t u p q = ap sector_at (sym (eqb-true c.0 t.0 p) ∙ eqb-true c.0 u.0 q)
+one_sector None t u p q = absurd (false≢true p)
+one_sector (Some (c, l)) t u p q = ap sector_at (sym (eqb-true c.0 t.0 p) ∙ eqb-true c.0 u.0 q)
 
 -- any act; where it matters, one that was accepted
 module _ (image : List ℕ) (s : Session) (frame : List ℕ) where

@@ -1,5 +1,6 @@
 -- Every act of the judgement is one that was accepted, or a refusal with a number.
 -- Assumes nothing.
+use Rattle.std.proofs.Common.{Err, None, Ok, Result, Some}
 use mathlib.Core.Path.{◌≡◌, refl}
 use mathlib.Core.Bool.{Bool, true, false, cond, not, ◌&&◌, false≢true}
 use mathlib.Core.List.{List, [], ◌∷◌, ◌++◌}
@@ -15,15 +16,14 @@ use Rattle.access.specs.declared.rights.Letter.{Letter}
 use Rattle.access.specs.declared.rights.Operation.{Operation}
 use Rattle.access.specs.declared.rights.Operation.TheVariants as column
 use Rattle.value.specs.Block.{bits_in, address_in}
-use Rattle.value.specs.declared.sum.Total.{Total}
-use Rattle.value.specs.declared.sum.Total.TheVariants.{Fits, Negative, Outside}
+use Rattle.value.specs.declared.sum.SumError.{SumError}
+use Rattle.value.specs.declared.sum.SumError.TheVariants.{Negative, Outside}
 use Rattle.session.specs.Session.{is_empty}
-use Rattle.session.specs.declared.Auth.{Auth}
+use Rattle.session.specs.Session.{Auth}
 use Rattle.session.specs.declared.Kind.{Kind}
 use Rattle.session.specs.declared.Stage.{Stage}
 use Rattle.session.specs.declared.Stage.TheVariants.{Idle, WriteWaits, ValueWaits}
-use Rattle.session.specs.declared.Register.{Register}
-use Rattle.session.specs.declared.Register.TheVariants.{Empty, Full}
+use Rattle.session.specs.Session.{Register}
 use Rattle.session.specs.declared.Session.{Session}
 use Rattle.frame.specs.Command.{command_of}
 use Rattle.frame.specs.declared.Command.{Command}
@@ -103,17 +103,17 @@ module _ (image : List ℕ) (s : Session) (frame : List ℕ) where
       go true e = (w, a, l, e, refl)
       go false e = (w, a, l, e)
 
-  load : (k : Kind) (b : Block) (t : Total) → s.stage ≡ ValueWaits k b → Countable image s.auth k b
+  load : (k : Kind) (b : Block) (t : Result ℕ SumError) → s.stage ≡ ValueWaits k b → Countable image s.auth k b
       → total_for k (bits_in (content_of image b)) (bits_in frame) ≡ t → Accepted image s frame (load_of t (address_in (content_of image b)))
   unfolding load_of
-  load k b Negative w c e = λ h. omega arith
-  load k b Outside w c e = λ h. omega arith
-  load k b (Fits v) w c e = record { kind = k; source = b; awaited = w; countable = c; result = e; address = refl }
+  load k b (Err Negative) w c e = λ h. omega arith
+  load k b (Err Outside) w c e = λ h. omega arith
+  load k b (Ok v) w c e = record { kind = k; source = b; awaited = w; countable = c; result = e; address = refl }
 
   move : (b : Block) (r : Register) → s.stage ≡ Idle → s.register ≡ r → Allowed image s.auth column.Decrement b → Accepted image s frame (move_of r b)
   unfolding move_of
-  move b Empty w e a = λ h. omega arith
-  move b (Full v x) w e a = (w, a, e)
+  move b None w e a = λ h. omega arith
+  move b (Some (v, x)) w e a = (w, a, e)
 
   admitted : (l : Letter) (b : Block) → first (authenticate_checks image l b frame) ≡ passes → Admitted image (sector_of b) l frame
   unfolding authenticate_checks no_block is_blocked wrong_key

@@ -1,5 +1,5 @@
 -- What stands behind an act of the judgement.
-use Rattle.std.specs.Prelude.{◌≡◌, true, false, List, ℕ, eqb, length}
+use Rattle.std.specs.Prelude.{◌≡◌, true, false, List, ℕ, eqb, length, Ok, Some}
 use Rattle.layout.specs.Layout.{has_block, sector_of, is_trailer}
 use Rattle.layout.specs.declared.Block.{Block}
 use Rattle.layout.specs.declared.Sector.{Sector}
@@ -9,12 +9,10 @@ use Rattle.access.specs.declared.rights.Letter.{Letter}
 use Rattle.access.specs.declared.rights.Operation.{Operation}
 use Rattle.access.specs.declared.rights.Operation.TheVariants as column
 use Rattle.value.specs.Block.{agreeing, bits_in, address_in}
-use Rattle.value.specs.declared.sum.Total.TheVariants.{Fits}
 use Rattle.session.specs.Session.{in_sector}
-use Rattle.session.specs.declared.Auth.{Auth}
+use Rattle.session.specs.Session.{Auth}
 use Rattle.session.specs.declared.Kind.{Kind}
 use Rattle.session.specs.declared.Stage.TheVariants as stage
-use Rattle.session.specs.declared.Register.TheVariants.{Full}
 use Rattle.session.specs.declared.Session.{Session}
 use Rattle.judge.specs.Checks.{guard_of, access_of, is_key, is_forbidden, no_right, kind_column}
 use Rattle.judge.specs.Judge.{total_for, trailer_bits}
@@ -48,7 +46,7 @@ pub record Load (image : List ℕ) (s : Session) (frame : List ℕ) (v a : ℕ) 
   pub source : Block
   pub awaited : s.stage ≡ stage.ValueWaits kind source
   pub countable : Countable image s.auth kind source
-  pub result : total_for kind (bits_in (content_of image source)) (bits_in frame) ≡ Fits v
+  pub result : total_for kind (bits_in (content_of image source)) (bits_in frame) ≡ Ok v
   pub address : a ≡ address_in (content_of image source)
 
 -- what stands behind each act: which frame was awaited, and what it has passed; a refusal has a number other than 0, and a Halt, or a field reset, asks for nothing
@@ -63,5 +61,5 @@ Accepted image s frame (Stored b) = (s.stage ≡ stage.WriteWaits b) × Allowed 
 Accepted image s frame (TrailerStored b m) =
     (s.stage ≡ stage.WriteWaits b) × Allowed image s.auth column.Write b × (length frame ≡ 16) × (is_trailer b ≡ true) × (m ≡ trailer_bits image b)
 Accepted image s frame (Loaded v a) = Load image s frame v a
-Accepted image s frame (Moved b v a) = (s.stage ≡ stage.Idle) × Allowed image s.auth column.Decrement b × (s.register ≡ Full v a)
+Accepted image s frame (Moved b v a) = (s.stage ≡ stage.Idle) × Allowed image s.auth column.Decrement b × (s.register ≡ Some (v, a))
 Accepted image s frame Halted = Unit {0}

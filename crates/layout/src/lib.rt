@@ -6,15 +6,15 @@ ghost use Rattle.std.specs.Prelude.{◌≡◌, not, ◌<◌, eqb};
 ghost use Rattle.layout.specs.Layout.{sectors_of, blocks_of, has_sector, has_block, sector_of, trailer_of, is_trailer, group_at, group_of, group_number};
 
 // A block address.
-#[derive(Clone, Copy)]
+#[derive(Clone, Copy, PartialEq, Eq)]
 pub struct Block(pub u8);
 
 // A sector number.
-#[derive(Clone, Copy)]
+#[derive(Clone, Copy, PartialEq, Eq)]
 pub struct Sector(pub u8);
 
 // An access group of a sector: its data blocks in three parts, and its trailer.
-#[derive(Clone, Copy)]
+#[derive(Clone, Copy, PartialEq, Eq)]
 pub enum Group {
     First,
     Second,
@@ -91,11 +91,11 @@ pub fn trailer_of(s: Sector) -> Block
     Block(255)
 }
 
+#[tactic(auto, unfolding(crate::specs::Layout::is_trailer))]
 pub fn is_trailer(b: Block) -> bool
     ensures { result ≡ is_trailer b }
 {
-    let t = trailer_of(sector_of(b));
-    t.0 == b.0
+    trailer_of(sector_of(b)) == b
 }
 
 // The group of a place in a sector whose data groups have n blocks each.
@@ -130,10 +130,5 @@ pub fn group_of(b: Block) -> Group
 pub fn group_number(g: Group) -> u8
     ensures { result ≡ group_number g }
 {
-    match g {
-        Group::First => 0,
-        Group::Second => 1,
-        Group::Third => 2,
-        Group::Trailer => 3,
-    }
+    g as u8
 }

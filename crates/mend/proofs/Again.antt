@@ -17,11 +17,12 @@ use Rattle.value.specs.Block.{encode_of}
 use Rattle.value.proofs.Blocks.{encode_length}
 use Rattle.mend.specs.Rule.{mended_of}
 use Rattle.mend.specs.One.{changed_of, name_refusal, block_outcome, block_after}
-use Rattle.mend.specs.All.{all_after, call_number, mended_image}
-use Rattle.mend.specs.Laws.{Bytes, ImageBytes, NoneTold, SecondCall}
-use Rattle.mend.specs.declared.rule.Mended.{Mended}
-use Rattle.mend.specs.declared.rule.Mended.TheVariants.{As, NoMajority}
-use Rattle.mend.proofs.Ways.{after_length}
+use Rattle.mend.specs.All.{all_after, call_refusal, mended_image}
+use Rattle.mend.specs.Laws.{Bytes, quiet, ImageBytes, NoneTold, SecondCall}
+use Rattle.std.specs.Prelude.{Option, Some, None, Result, Ok, Err, IfOk}
+use Rattle.mend.specs.declared.BlockRefusal.{BlockRefusal}
+use Rattle.mend.specs.declared.CallRefusal.{CallRefusal}
+use Rattle.mend.proofs.Ways.{not_ok, after_length}
 use Rattle.mend.proofs.Majority.{mended_small}
 use Rattle.mend.proofs.Laws.{refused, tied, stored, told, reads, other, second_time}
 
@@ -39,20 +40,19 @@ unchanged (x ∷ xs) (y ∷ ys) l e = go (eqb x y) refl (changed_of xs ys) refl 
 
 -- nothing is told of a block; then nothing changes
 abbrev Quiet : List ℕ → Block → Type 0
-Quiet image b = (block_outcome image b).changed ≡ 0
+Quiet image b = IfOk (block_outcome image b) (λ changed. changed ≡ 0)
 
 quiet_stays : (image : List ℕ) (b : Block) → Quiet image b → block_after image b ≡ image
-quiet_stays image b q = go (eqb (name_refusal (length image) b) 0) refl (mended_of (content_of image b)) refl
+quiet_stays image b q = go (name_refusal (length image) b) refl (mended_of (content_of image b)) refl
   where
-    go : (t : Bool) → eqb (name_refusal (length image) b) 0 ≡ t → (m : Mended) → mended_of (content_of image b) ≡ m → block_after image b ≡ image
-    go false e m f = (refused image b e).0
-    go true e NoMajority f = (tied image b (eqb-true _ 0 e) f).0
-    go true e (As v a) f =
-        let z = eqb-true (name_refusal (length image) b) 0 e in
-        let n : changed_of (content_of image b) (encode_of (signed v) a) ≡ 0 = ap (λ o. o.changed) (sym (told image b v a z f)) ∙ q in
+    go : (r : Result (Unit {0}) BlockRefusal) → name_refusal (length image) b ≡ r → (m : Option (ℕ × ℕ)) → mended_of (content_of image b) ≡ m → block_after image b ≡ image
+    go (Err n) e m f = (refused image b n e).0
+    go (Ok u) e None f = (tied image b e f).0
+    go (Ok u) e (Some (v, a)) f =
+        let n : changed_of (content_of image b) (encode_of (signed v) a) ≡ 0 = rw (told image b v a e f) at q in
         let s : content_of image b ≡ encode_of (signed v) a =
         unchanged (content_of image b) (encode_of (signed v) a) (content_length image b ∙ sym (encode_length (signed v) a)) n in
-        stored image b v a z f ∙ rw (← s) (store_same image b)
+        stored image b v a e f ∙ rw (← s) (store_same image b)
 
 -- what is told of a block depends on its bytes and the image's length
 same_outcome : (x y : List ℕ) (b : Block) → length x ≡ length y → content_of x b ≡ content_of y b → block_outcome x b ≡ block_outcome y b
@@ -67,7 +67,7 @@ quiet_kept image b c q = go (eqb c.0 b.0) refl
         let s : c ≡ b = ap block_at (eqb-true c.0 b.0 e) in
         rw (s, quiet_stays image b q) q
     go false e =
-        ap (λ o. o.changed) (same_outcome (block_after image c) image b (after_length image c) (other image c b (eqb-false c.0 b.0 e))) ∙ q
+        rw (same_outcome (block_after image c) image b (after_length image c) (other image c b (eqb-false c.0 b.0 e))) q
 
 quiet_all : (image names : List ℕ) (b : Block) → Quiet image b → Quiet (all_after image names) b
 unfolding all_after
@@ -126,16 +126,20 @@ encoded_bytes v a h =
     )
 
 bytes_after : (image : List ℕ) (b : Block) → ImageBytes image → ImageBytes (block_after image b)
-bytes_after image b byte j = go (eqb b.0 j.0) refl (eqb (name_refusal (length image) b) 0) refl (mended_of (content_of image b)) refl
+bytes_after image b byte j = go (eqb b.0 j.0) refl (name_refusal (length image) b) refl (mended_of (content_of image b)) refl
   where
-    go : (u : Bool) → eqb b.0 j.0 ≡ u → (t : Bool) → eqb (name_refusal (length image) b) 0 ≡ t → (m : Mended) → mended_of (content_of image b) ≡ m
+    go : (w : Bool) → eqb b.0 j.0 ≡ w → (r : Result (Unit {0}) BlockRefusal) → name_refusal (length image) b ≡ r → (m : Option (ℕ × ℕ)) → mended_of (content_of image b) ≡ m
         → Bytes (content_of (block_after image b) j)
-    go false d t e m f = rw (other image b j (eqb-false b.0 j.0 d)) (byte j)
-    go true d false e m f = rw (refused image b e).0 (byte j)
-    go true d true e NoMajority f = rw (tied image b (eqb-true _ 0 e) f).0 (byte j)
-    go true d true e (As v a) f =
+    go false d r e m f = rw (other image b j (eqb-false b.0 j.0 d)) (byte j)
+    go true d (Err n) e m f = rw (refused image b n e).0 (byte j)
+    go true d (Ok u) e None f = rw (tied image b e f).0 (byte j)
+    go true d (Ok u) e (Some (v, a)) f =
         let s : j ≡ b = ap block_at (sym (eqb-true b.0 j.0 d)) in
-        rw (s, reads image b v a (eqb-true _ 0 e) f) (encoded_bytes v a (mended_small (content_of image b) v a (byte b) f).1)
+        rw (s, reads image b v a e f) (encoded_bytes v a (mended_small (content_of image b) v a (byte b) f).1)
+
+nothing_told : (r : Result ℕ BlockRefusal) → IfOk (quiet r) (λ changed. changed ≡ 0)
+nothing_told (Ok changed) = refl
+nothing_told (Err refusal) = tt
 
 -- every name is quiet after a call
 abbrev Quieted : List ℕ → List ℕ → Type 0
@@ -146,7 +150,8 @@ quieted : (image names : List ℕ) → ImageBytes image → Quieted (all_after i
 unfolding all_after
 quieted image [] byte = tt
 quieted image (n ∷ ns) byte =
-    let q : Quiet (block_after image (block_at n)) (block_at n) = ap (λ o. o.changed) (second_time image (block_at n) (byte (block_at n))).1 in
+    let q : Quiet (block_after image (block_at n)) (block_at n) =
+    rw (second_time image (block_at n) (byte (block_at n))).1 (nothing_told (block_outcome image (block_at n))) in
     (quiet_all (block_after image (block_at n)) ns (block_at n) q, quieted (block_after image (block_at n)) ns (bytes_after image (block_at n) byte))
 
 -- and then nothing is left to do
@@ -165,12 +170,12 @@ all_length image (n ∷ ns) = all_length (block_after image (block_at n)) ns ∙
 
 pub second_call : SecondCall
 unfolding mended_image
-second_call image names byte = go (eqb (call_number (length image) (length names)) 0) refl
+second_call image names byte = go (call_refusal (length image) (length names)) refl
   where
-    go : (t : Bool) → eqb (call_number (length image) (length names)) 0 ≡ t
+    go : (r : Result (Unit {0}) CallRefusal) → call_refusal (length image) (length names) ≡ r
         → (mended_image (mended_image image names) names ≡ mended_image image names)
-        × (call_number (length image) (length names) ≡ 0 → NoneTold (mended_image image names) names)
-    go true e =
+        × (call_refusal (length image) (length names) ≡ Ok tt → NoneTold (mended_image image names) names)
+    go (Ok u) e =
         let r = quiet_call (all_after image names) names (quieted image names byte) in
         rw (e, all_length image names, e) (r.0, λ z. r.1)
-    go false e = rw (e, e) (refl, λ z. absurd (eqb-false _ 0 e z))
+    go (Err n) e = rw (e, e) (refl, λ z. absurd (not_ok z))

@@ -1,7 +1,8 @@
 -- Which bytes changed, told byte by byte from the last one on.
 -- Assumes nothing.
-use mathlib.Core.Path.{◌≡◌}
-use mathlib.Core.Bool.{Bool, true, false, cond}
+use mathlib.Core.Path.{◌≡◌, refl}
+use mathlib.Core.Bool.{Bool, true, false, cond, not}
+use mir.Val.{bool_byte}
 use mathlib.Core.List.{List, [], ◌∷◌}
 use Prim.Native.Nat.{ℕ, zero, suc, ◌+◌, ◌*◌, ◌<◌, ◌≤◌}
 use native.Mathlib.Omega.{arith}
@@ -19,7 +20,12 @@ twos_some : (n : ℕ) → 0 < twos n
 twos_some zero = omega arith
 twos_some (suc n) = omega (arith, twos_some n)
 
-bit_small : (t : Bool) → cond t 0 1 ≤ 1
+-- 1 where two bytes differ
+pub differs : (t : Bool) → bool_byte (not t) ≡ cond t 0 1
+differs true = refl
+differs false = refl
+
+pub bit_small : (t : Bool) → cond t 0 1 ≤ 1
 bit_small true = omega arith
 bit_small false = omega arith
 
@@ -42,13 +48,9 @@ module _ (xs ys : List ℕ) (lx : length xs ≡ 16) (ly : length ys ≡ 16) (i b
       let l : length (drop i xs) ≤ 15 = simp length-drop (omega arith) in
       rw known (changed_small 15 (drop i xs) (drop i ys) l)
 
-  pub turn : (j d : ℕ) → i ≡ suc j → j < 16 → d ≡ cond (eqb (get_or xs j 0) (get_or ys j 0)) 0 1 → d + 2 * bits ≡ changed_of (drop j xs) (drop j ys)
+  pub turn : (j d : ℕ) → i ≡ suc j → j < 16 → d ≡ bool_byte (not (eqb (get_or xs j 0) (get_or ys j 0))) → d + 2 * bits ≡ changed_of (drop j xs) (drop j ys)
   unfolding changed_of
   turn j d e k q =
       let hx : j < length xs = omega arith in
       let hy : j < length ys = omega arith in
-      rw (drop-cons xs j 0 hx, drop-cons ys j 0 hy, q, known, e)
-
-pub all_told : (xs ys : List ℕ) (i bits : ℕ) → i ≤ 0 → bits ≡ changed_of (drop i xs) (drop i ys) → bits ≡ changed_of xs ys
-all_told xs ys zero bits h e = e
-all_told xs ys (suc i) bits h e = absurd (omega arith)
+      rw (drop-cons xs j 0 hx, drop-cons ys j 0 hy, q, differs (eqb (get_or xs j 0) (get_or ys j 0)), known, e)

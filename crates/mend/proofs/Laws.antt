@@ -4,7 +4,6 @@ use mathlib.Core.Path.{◌≡◌, refl, sym, ◌∙◌, ap}
 use mathlib.Core.Bool.{Bool, true, false, cond, ◌||◌}
 use mathlib.Core.List.{List, [], ◌∷◌}
 use Prim.Native.Nat.{ℕ, ◌<◌}
-use native.Mathlib.Omega.{arith}
 use lib.Dec.{eqb}
 use lib.ListN.{length}
 use borrow.Author.Tests.{eq-eqb, eqb-true, eqb-false}
@@ -17,11 +16,12 @@ use Rattle.value.specs.Block.{encode_of}
 use Rattle.value.proofs.Blocks.{encode_length, decode_encode, encode_decode, decode_small}
 use Rattle.mend.specs.Rule.{mended_of}
 use Rattle.mend.specs.One.{changed_of, name_refusal, outcome_of, rewritten, block_outcome, block_after}
-use Rattle.mend.specs.All.{all_after, call_number, mended_image}
-use Rattle.mend.specs.Laws.{Bytes, MendedIsValue, SoundStays, TornByte, SecondTime, NotNamed, OthersStay, KeptStay}
-use Rattle.mend.specs.declared.rule.Mended.{Mended}
-use Rattle.mend.specs.declared.rule.Mended.TheVariants.{As, NoMajority}
-use Rattle.mend.proofs.Ways.{after_length}
+use Rattle.mend.specs.All.{all_after, call_refusal, mended_image}
+use Rattle.mend.specs.Laws.{Bytes, quiet, MendedIsValue, SoundStays, TornByte, SecondTime, NotNamed, OthersStay, KeptStay}
+use Rattle.std.specs.Prelude.{Option, Some, None, Result, Ok, Err, is_ok}
+use Rattle.mend.specs.declared.BlockRefusal.{BlockRefusal}
+use Rattle.mend.specs.declared.BlockRefusal.TheVariants.{NoBlock, NotData, NoMajority}
+use Rattle.mend.proofs.Ways.{not_ok, after_length}
 use Rattle.mend.proofs.Majority.{whole, torn, mended_small}
 
 -- nothing changed
@@ -32,40 +32,39 @@ changed_none (x ∷ xs) = rw (eq-eqb x x refl, changed_none xs)
 
 -- a block that may be mended is there, and is neither block 0 nor a trailer
 module _ (bytes : ℕ) (b : Block) where
-  pub here : name_refusal bytes b ≡ 0 → has_block bytes b ≡ true
+  pub here : name_refusal bytes b ≡ Ok tt → has_block bytes b ≡ true
   unfolding name_refusal
   here e = go (has_block bytes b) refl
     where
       go : (t : Bool) → has_block bytes b ≡ t → has_block bytes b ≡ true
       go true f = f
-      go false f = let q : ◌≡◌ {A = ℕ} 2 0 = rw f at e in absurd (omega arith)
+      go false f = let q : ◌≡◌ {A = Result (Unit {0}) BlockRefusal} (Err NoBlock) (Ok tt) = rw f at e in absurd (not_ok q)
 
-  kept : (eqb b.0 0 || is_trailer b) ≡ true → eqb (name_refusal bytes b) 0 ≡ false
+  kept : (eqb b.0 0 || is_trailer b) ≡ true → name_refusal bytes b ≡ Err (cond (has_block bytes b) NotData NoBlock)
   unfolding name_refusal
   kept e = rw e (go (has_block bytes b))
     where
-      go : (t : Bool) → eqb (cond t 6 2) 0 ≡ false
+      go : (t : Bool) → ◌≡◌ {A = Result (Unit {0}) BlockRefusal} (cond t (Err NotData) (Err NoBlock)) (Err (cond t NotData NoBlock))
       go true = refl
       go false = refl
 
 module _ (image : List ℕ) (b : Block) where
   -- refused by its address, or without a majority: all stays
-  pub refused : eqb (name_refusal (length image) b) 0 ≡ false
-      → (block_after image b ≡ image) × (block_outcome image b ≡ record { number = name_refusal (length image) b; changed = 0 })
+  pub refused : (r : BlockRefusal) → name_refusal (length image) b ≡ Err r → (block_after image b ≡ image) × (block_outcome image b ≡ Err r)
   unfolding block_after block_outcome
-  refused e = (rw e, rw e)
+  refused r e = (rw e, rw e)
 
-  pub tied : name_refusal (length image) b ≡ 0 → mended_of (content_of image b) ≡ NoMajority
-      → (block_after image b ≡ image) × (block_outcome image b ≡ record { number = 19; changed = 0 })
+  pub tied : name_refusal (length image) b ≡ Ok tt → mended_of (content_of image b) ≡ None
+      → (block_after image b ≡ image) × (block_outcome image b ≡ Err NoMajority)
   unfolding block_after block_outcome rewritten outcome_of
   tied e f = (rw (e, f), rw (e, f))
 
-  module _ (v a : ℕ) (e : name_refusal (length image) b ≡ 0) (m : mended_of (content_of image b) ≡ As v a) where
+  module _ (v a : ℕ) (e : name_refusal (length image) b ≡ Ok tt) (m : mended_of (content_of image b) ≡ Some (v, a)) where
     pub stored : block_after image b ≡ store_of image b (encode_of (signed v) a)
     unfolding block_after rewritten
     stored = rw (e, m)
 
-    pub told : block_outcome image b ≡ record { number = 0; changed = changed_of (content_of image b) (encode_of (signed v) a) }
+    pub told : block_outcome image b ≡ Ok (changed_of (content_of image b) (encode_of (signed v) a))
     unfolding block_outcome outcome_of
     told = rw (e, m)
 
@@ -73,10 +72,10 @@ module _ (image : List ℕ) (b : Block) where
     reads = rw stored (store_back image b (encode_of (signed v) a) (encode_length (signed v) a) (here (length image) b e))
 
   -- a block that is sound
-  sound : (v a : ℕ) → name_refusal (length image) b ≡ 0 → content_of image b ≡ encode_of (signed v) a → v < 4294967296 → a < 256
-      → (block_outcome image b ≡ record { number = 0; changed = 0 }) × (block_after image b ≡ image)
+  sound : (v a : ℕ) → name_refusal (length image) b ≡ Ok tt → content_of image b ≡ encode_of (signed v) a → v < 4294967296 → a < 256
+      → (block_outcome image b ≡ Ok 0) × (block_after image b ≡ image)
   sound v a e held hv ha =
-      let m : mended_of (content_of image b) ≡ As v a = ap mended_of held ∙ whole v a hv ha in (
+      let m : mended_of (content_of image b) ≡ Some (v, a) = ap mended_of held ∙ whole v a hv ha in (
         told v a e m ∙ rw (← held, changed_none (content_of image b)),
         stored v a e m ∙ rw (← held) (store_same image b),
       )
@@ -99,34 +98,31 @@ pub torn_byte : TornByte
 torn_byte image b block v a i w byte d h e held =
     let s = encode_decode block v a d in
     let hv = decode_small block v a d in
-    let m : mended_of (content_of image b) ≡ As v a =
+    let m : mended_of (content_of image b) ≡ Some (v, a) =
     ap mended_of held ∙ rw (← s) (torn v a hv (address_small block v a byte s) i w h) in
-    (ap (λ o. o.number) (told image b v a e m), reads image b v a e m ∙ s)
+    (ap is_ok (told image b v a e m), reads image b v a e m ∙ s)
 
 pub second_time : SecondTime
-second_time image b byte = go (eqb (name_refusal (length image) b) 0) refl (mended_of (content_of image b)) refl
+second_time image b byte = go (name_refusal (length image) b) refl (mended_of (content_of image b)) refl
   where
-    go : (t : Bool) → eqb (name_refusal (length image) b) 0 ≡ t → (m : Mended) → mended_of (content_of image b) ≡ m
-        → (block_after (block_after image b) b ≡ block_after image b)
-        × (block_outcome (block_after image b) b ≡ record { number = (block_outcome image b).number; changed = 0 })
-    go false e m f = let r = refused image b e in rw r.0 (r.0, r.1 ∙ rw r.1)
-    go true e NoMajority f = let r = tied image b (eqb-true _ 0 e) f in rw r.0 (r.0, r.1 ∙ rw r.1)
-    go true e (As v a) f =
-        let z = eqb-true (name_refusal (length image) b) 0 e in
-        let l : name_refusal (length (block_after image b)) b ≡ 0 = rw (after_length image b) z in
+    go : (r : Result (Unit {0}) BlockRefusal) → name_refusal (length image) b ≡ r → (m : Option (ℕ × ℕ)) → mended_of (content_of image b) ≡ m
+        → (block_after (block_after image b) b ≡ block_after image b) × (block_outcome (block_after image b) b ≡ quiet (block_outcome image b))
+    go (Err n) e m f = let r = refused image b n e in rw r.0 (r.0, r.1 ∙ rw r.1)
+    go (Ok u) e None f = let r = tied image b e f in rw r.0 (r.0, r.1 ∙ rw r.1)
+    go (Ok u) e (Some (v, a)) f =
+        let l : name_refusal (length (block_after image b)) b ≡ Ok tt = rw (after_length image b) e in
         let n = mended_small (content_of image b) v a byte f in
-        let s = sound (block_after image b) b v a l (reads image b v a z f) n.0 n.1 in
-        (s.1, s.0 ∙ rw (told image b v a z f))
+        let s = sound (block_after image b) b v a l (reads image b v a e f) n.0 n.1 in
+        (s.1, s.0 ∙ rw (told image b v a e f))
 
 -- one named block leaves every other as it is
 pub other : (image : List ℕ) (b j : Block) → (b.0 ≡ j.0 → ⊥) → content_of (block_after image b) j ≡ content_of image j
-other image b j ne = go (eqb (name_refusal (length image) b) 0) refl (mended_of (content_of image b)) refl
+other image b j ne = go (name_refusal (length image) b) refl (mended_of (content_of image b)) refl
   where
-    go : (t : Bool) → eqb (name_refusal (length image) b) 0 ≡ t → (m : Mended) → mended_of (content_of image b) ≡ m → content_of (block_after image b) j ≡ content_of image j
-    go false e m f = rw (refused image b e).0
-    go true e NoMajority f = rw (tied image b (eqb-true _ 0 e) f).0
-    go true e (As v a) f =
-        rw (stored image b v a (eqb-true _ 0 e) f) (store_other image b (encode_of (signed v) a) (encode_length (signed v) a) j ne)
+    go : (r : Result (Unit {0}) BlockRefusal) → name_refusal (length image) b ≡ r → (m : Option (ℕ × ℕ)) → mended_of (content_of image b) ≡ m → content_of (block_after image b) j ≡ content_of image j
+    go (Err n) e m f = rw (refused image b n e).0
+    go (Ok u) e None f = rw (tied image b e f).0
+    go (Ok u) e (Some (v, a)) f = rw (stored image b v a e f) (store_other image b (encode_of (signed v) a) (encode_length (signed v) a) j ne)
 
 -- and block 0 and the trailers as they are
 kept_one_lem : (image : List ℕ) (b j : Block) → (eqb j.0 0 || is_trailer j) ≡ true → content_of (block_after image b) j ≡ content_of image j
@@ -135,7 +131,7 @@ kept_one_lem image b j k = go (eqb b.0 j.0) refl
     go : (t : Bool) → eqb b.0 j.0 ≡ t → content_of (block_after image b) j ≡ content_of image j
     go true e =
         let s : b ≡ j = ap block_at (eqb-true b.0 j.0 e) in
-        rw s (rw (refused image j (kept (length image) j k)).0)
+        rw s (rw (refused image j _ (kept (length image) j k)).0)
     go false e = other image b j (eqb-false b.0 j.0 e)
 
 all_others : (image names : List ℕ) (j : Block) → NotNamed j names → content_of (all_after image names) j ≡ content_of image j
@@ -155,8 +151,8 @@ by_call image names j false e = refl
 
 pub others_stay : OthersStay
 unfolding mended_image
-others_stay image names j h = by_call image names j (eqb (call_number (length image) (length names)) 0) (all_others image names j h)
+others_stay image names j h = by_call image names j (is_ok (call_refusal (length image) (length names))) (all_others image names j h)
 
 pub kept_stay : KeptStay
 unfolding mended_image
-kept_stay image names j k = by_call image names j (eqb (call_number (length image) (length names)) 0) (all_kept image names j k)
+kept_stay image names j k = by_call image names j (is_ok (call_refusal (length image) (length names))) (all_kept image names j k)

@@ -13,7 +13,7 @@ use Rattle.value.specs.Block.{word_of, encode_of}
 use Rattle.value.proofs.Blocks.{bits_signed, four_back}
 use Rattle.mend.specs.Rule.{first_value, second_value, third_value, first_address, second_address, third_address, fourth_address, two_agree, majority_of_three, three_agree, majority_of_four, majority_rule, mended_of}
 use Rattle.mend.specs.Laws.{Bytes, count_of, ByMajority, OnlyByMajority, ZerosTie, NotByteByByte}
-use Rattle.mend.specs.declared.rule.Mended.TheVariants.{As, NoMajority}
+use Rattle.std.specs.Prelude.{Option, Some, None}
 
 or_true : (x : Bool) → (x || true) ≡ true
 or_true true = refl
@@ -81,7 +81,7 @@ pub says_pqr : {x p q r a : ℕ} → p ≡ a → q ≡ a → r ≡ a → Address
 says_pqr {x} {p} {q} {r} {a} e f g =
     rw (e, f, g) (record { agree = rw (eq-eqb a a refl); what = same_both (eqb a a && eqb a x) a })
 
-pub ruled : {a b c p q r s v x : ℕ} → ValueSays a b c v → AddressSays p q r s x → majority_rule a b c p q r s ≡ As v x
+pub ruled : {a b c p q r s v x : ℕ} → ValueSays a b c v → AddressSays p q r s x → majority_rule a b c p q r s ≡ Some (v, x)
 unfolding majority_rule
 ruled t u = rw (t.agree, u.agree, t.what, u.what)
 
@@ -127,7 +127,7 @@ by_majority block v a h k = ruled (of_three _ _ _ v h) (of_four _ _ _ _ a k)
 never : false ≡ true → ⊥
 never z = let q : ◌≡◌ {A = ℕ} 0 1 = cc in omega arith
 
-none : {v x : ℕ} → NoMajority ≡ As v x → ⊥
+none : {v x : ℕ} → ◌≡◌ {A = Option (ℕ × ℕ)} None (Some (v, x)) → ⊥
 none z = let q : ◌≡◌ {A = ℕ} 0 1 = cc in omega arith
 
 -- the other way round
@@ -171,16 +171,17 @@ four_of_lem p q r s h = go (eqb q r) refl (eqb q s) refl
     go false e u f = rw e (first_of p q r s (or_false _ (rw e at h)))
 
 -- what a ruling says of its readings
-unruled : {a b c p q r s v x : ℕ} → majority_rule a b c p q r s ≡ As v x → (ValueSays a b c v) × (AddressSays p q r s x)
+unruled : {a b c p q r s v x : ℕ} → majority_rule a b c p q r s ≡ Some (v, x) → (ValueSays a b c v) × (AddressSays p q r s x)
 unfolding majority_rule
 unruled {a} {b} {c} {p} {q} {r} {s} {v} {x} h = go (two_agree a b c) refl (three_agree p q r s) refl
   where
     go : (t : Bool) → two_agree a b c ≡ t → (u : Bool) → three_agree p q r s ≡ u → (ValueSays a b c v) × (AddressSays p q r s x)
     go true e true f =
-        let k : As (majority_of_three a b c) (majority_of_four p q r s) ≡ As v x = rw (e, f) at h in
-        (record { agree = e; what = cc }, record { agree = f; what = cc })
-    go true e false f = let k : NoMajority ≡ As v x = rw (e, f) at h in absurd (none k)
-    go false e u f = let k : NoMajority ≡ As v x = rw e at h in absurd (none k)
+        let k : Some (majority_of_three a b c, majority_of_four p q r s) ≡ Some (v, x) = rw (e, f) at h in
+        let both : (majority_of_three a b c, majority_of_four p q r s) ≡ (v, x) = cc in
+        (record { agree = e; what = ap (λ (m : ℕ × ℕ). m.0) both }, record { agree = f; what = ap (λ (m : ℕ × ℕ). m.1) both })
+    go true e false f = let k : ◌≡◌ {A = Option (ℕ × ℕ)} None (Some (v, x)) = rw (e, f) at h in absurd (none k)
+    go false e u f = let k : ◌≡◌ {A = Option (ℕ × ℕ)} None (Some (v, x)) = rw e at h in absurd (none k)
 
 pub only_by_majority : OnlyByMajority
 unfolding mended_of
@@ -195,7 +196,7 @@ pick_small true x y n h k = h
 pick_small false x y n h k = k
 
 -- a majority of bytes' readings fits: the value has 32 bits, the address eight
-pub mended_small : (block : List ℕ) (v a : ℕ) → Bytes block → mended_of block ≡ As v a → (v < 4294967296) × (a < 256)
+pub mended_small : (block : List ℕ) (v a : ℕ) → Bytes block → mended_of block ≡ Some (v, a) → (v < 4294967296) × (a < 256)
 unfolding mended_of
 mended_small block v a byte h =
     let u = unruled h in
@@ -237,12 +238,12 @@ module _ (v a : ℕ) (hv : v < 4294967296) (ha : a < 256) where
   address = omega arith
 
   -- a value block is mended to itself
-  pub whole : mended_of (encode_of (signed v) a) ≡ As v a
+  pub whole : mended_of (encode_of (signed v) a) ≡ Some (v, a)
   unfolding mended_of encode_of
   whole = rw (bits_signed v hv) (ruled (says_ab plain inverse) (says_pqr refl address refl))
 
   -- and so with one byte torn
-  pub torn : (i w : ℕ) → i < 16 → mended_of (set (encode_of (signed v) a) i w) ≡ As v a
+  pub torn : (i w : ℕ) → i < 16 → mended_of (set (encode_of (signed v) a) i w) ≡ Some (v, a)
   unfolding mended_of encode_of
   torn zero w h = rw (bits_signed v hv) (ruled (says_bc inverse plain) (says_pqr refl address refl))
   torn (suc zero) w h = rw (bits_signed v hv) (ruled (says_bc inverse plain) (says_pqr refl address refl))

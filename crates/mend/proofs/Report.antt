@@ -5,24 +5,25 @@ use mathlib.Core.List.{List, [], ◌∷◌, ◌++◌, append_assoc, append-nil}
 use Prim.Native.Nat.{ℕ, suc, ◌+◌, ◌*◌, ◌-◌, ◌<◌, ◌≤◌}
 use native.Mathlib.Omega.{arith}
 use native.Mathlib.Numerals.{add-one}
-use lib.ListN.{length, take, drop, set, get_or, replicate, length-append, length-drop, take-append-drop, drop_of_length-le, length-replicate}
-use lib.Seq.{sets-eq, drop-cons, take_at, drop_at, drop-drop, length-take-le}
+use borrow.Rule.Slice.PartMut.{put_mid, Post-is}
+use lib.ListN.{length, take, drop, get_or, replicate, length-append, length-drop, take-append-drop, drop_of_length-le, length-replicate}
+use lib.Seq.{drop-cons, take_at, drop_at, drop-drop, length-take-le}
 use Rattle.layout.specs.Layout.{block_at}
 use Rattle.mend.specs.One.{block_outcome, block_after}
 use Rattle.mend.specs.All.{all_after, row_of, rows_of, padded}
-use Rattle.mend.specs.declared.one.Outcome.{Outcome}
+use Rattle.std.specs.Prelude.{Result, Ok, Err}
+use Rattle.mend.specs.declared.BlockRefusal.{BlockRefusal}
 use Rattle.mend.proofs.Ways.{after_length}
 
--- three bytes stored one after the other
-pub three_stored : (l : List ℕ) (at a b c : ℕ) → at + 3 ≤ length l
-    → set (set (set l at a) (at + 1) b) (at + 2) c ≡ take at l ++ ((a ∷ b ∷ c ∷ []) ++ drop (at + 3) l)
-three_stored l at a b c h =
-    let two : at + 2 ≡ suc (suc at) = omega arith in
-    rw (add-one at, two) (sets-eq (a ∷ b ∷ c ∷ []) l at h ∙ append_assoc (take at l) (a ∷ b ∷ c ∷ []) (drop (at + 3) l))
+-- a row put in the place of three bytes
+pub row_put : (l row put : List ℕ) (at : ℕ) → put ≡ row → put_mid at (at + 3 - at) l put ≡ take at l ++ (row ++ drop (at + 3) l)
+row_put l row put at e =
+    rw (Post-is at (at + 3) l (omega arith), e)
 
-row_length : (o : Outcome) → length (row_of o) ≡ 3
+row_length : (o : Result ℕ BlockRefusal) → length (row_of o) ≡ 3
 unfolding row_of
-row_length o = refl
+row_length (Ok changed) = refl
+row_length (Err refusal) = refl
 
 -- after i names: what is left to do gives the rest of the rows and the last image, and behind the rows are zeros
 pub record Filling (image₀ names image report : List ℕ) (i : ℕ) : Type 0 where
@@ -49,7 +50,7 @@ module _ (image₀ names image report : List ℕ) (i : ℕ) (f : Filling image�
   pub place : i < length names → (i < 256) × (length report ≡ 768)
   place h = (omega (arith, f.few), f.size)
 
-  module _ (h : i < length names) (o : Outcome) (image' report' : List ℕ)
+  module _ (h : i < length names) (o : Result ℕ BlockRefusal) (image' report' : List ℕ)
       (told : o ≡ block_outcome image (block_at (get_or names i 0)))
       (stored : image' ≡ block_after image (block_at (get_or names i 0)))
       (put : report' ≡ take (3 * i) report ++ (row_of o ++ drop (3 * i + 3) report)) where

@@ -1,8 +1,6 @@
 -- The rule for sixteen bytes: three readings of the value, four of the address byte, and what most of them say.
-use Rattle.std.specs.Prelude.{Bool, cond, ◌&&◌, ◌||◌, List, ℕ, ◌-◌, eqb, get_or}
+use Rattle.std.specs.Prelude.{Bool, cond, ◌&&◌, ◌||◌, List, ℕ, ◌-◌, eqb, get_or, Option, Some, None}
 use Rattle.value.specs.Block.{word_of}
-use Rattle.mend.specs.declared.rule.Mended.{Mended}
-use Rattle.mend.specs.declared.rule.Mended.TheVariants.{As, NoMajority}
 
 -- the readings of the value, each a whole number: bytes 0 to 3; bytes 4 to 7, inverted; bytes 8 to 11
 abbrev pub first_value : List ℕ → ℕ
@@ -42,12 +40,12 @@ abbrev pub majority_of_four : ℕ → ℕ → ℕ → ℕ → ℕ
 majority_of_four p q r s = cond (eqb q r && eqb q s) q p
 
 -- three readings of a value and four of an address byte: what the majorities say; or one of the two has no majority
-unfoldable pub majority_rule : ℕ → ℕ → ℕ → ℕ → ℕ → ℕ → ℕ → Mended
+unfoldable pub majority_rule : ℕ → ℕ → ℕ → ℕ → ℕ → ℕ → ℕ → Option (ℕ × ℕ)
 majority_rule a b c p q r s =
-    cond (two_agree a b c && three_agree p q r s) (As (majority_of_three a b c) (majority_of_four p q r s)) NoMajority
+    cond (two_agree a b c && three_agree p q r s) (Some (majority_of_three a b c, majority_of_four p q r s)) None
 
 -- what a block is mended to: a value, as its bits, and an address byte; or there is no majority
-unfoldable pub mended_of : List ℕ → Mended
+unfoldable pub mended_of : List ℕ → Option (ℕ × ℕ)
 mended_of block =
     majority_rule (first_value block) (second_value block) (third_value block)
     (first_address block) (second_address block) (third_address block) (fourth_address block)

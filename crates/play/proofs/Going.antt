@@ -1,170 +1,82 @@
 -- The run's invariant: what is kept so far, with what is still ahead, is the whole.
 -- Assumes nothing.
 use mathlib.Core.Path.{◌≡◌, refl, sym, ◌∙◌, ap}
-use mathlib.Core.Bool.{Bool, true, false, cond}
 use mathlib.Core.List.{List, [], ◌∷◌, ◌++◌, map, append_assoc, append-nil}
-use Prim.Native.Nat.{ℕ, zero, suc, ◌+◌, ◌*◌, ◌-◌, ◌<◌, ◌≤◌}
+use Prim.Native.Nat.{ℕ, ◌+◌, ◌*◌, ◌-◌, ◌<◌, ◌≤◌}
 use native.Mathlib.Omega.{arith}
-use lib.Dec.{eqb}
+use native.Mathlib.Nat.{mul-one, mul-suc, mul-le-mul_left}
+use native.Mathlib.Numerals.{add-one}
 use lib.ListN.{length}
-use borrow.Author.Tests.{eqb-true, eqb-false}
 use Rattle.session.specs.Session.{fresh_of}
 use Rattle.session.specs.declared.Session.{Session}
 use Rattle.edition.specs.declared.CardRecord.{CardRecord}
-use Rattle.either_card.specs.declared.CardAnswer.{CardAnswer}
-use Rattle.script.specs.Script.{event_refusal, frame_at, next_at, Walk, walked, stopped, before, events_from, stop_in, events_on}
+use Rattle.either_card.specs.Answers.{CardAnswer}
+use Rattle.std.specs.Prelude.{Ok}
+use Rattle.script.specs.Script.{refusal_in, event_count, events_start, frame_at, next_at, walked, events_from}
 use Rattle.reader.specs.Reader.{step_at, bytes_of}
 use Rattle.reader.specs.declared.Step.{Step}
 use Rattle.reader.proofs.Laws.{lawful_event}
 use Rattle.runs.specs.Run.{State, begin, Sent, answer_to, image_upon, after, run_of, answers_of}
-use Rattle.play.specs.Text.{Put}
-use Rattle.play.specs.Run.{sent_of}
-use Rattle.play.specs.Printout.{event_lines}
-use Rattle.play.specs.Results.{width_of, results_of, card_results_of, kept_one, kept_of}
-use Rattle.play.specs.declared.events.Form.{Form}
-use Rattle.play.specs.declared.events.Form.TheVariants.{Lines, Results, CardResults}
-use Rattle.play.proofs.Put.{put_nothing, put_length, then}
-
--- a walk that begins with an event
-before_walked : (f : List ℕ) (w : Walk) (rest : List (List ℕ)) (end : ℕ) → before f w ≡ walked rest end → (more : List (List ℕ)) × (rest ≡ f ∷ more) × (w ≡ walked more end)
-unfolding before
-before_walked f (walked es place) rest end e = (es, cc, cc)
-before_walked f (stopped n) rest end e = ([], cc, cc)
-
--- one event of a walk that is not stopped
-next_event : (script : List ℕ) (left place : ℕ) (rest : List (List ℕ)) (end : ℕ) → 0 < left → events_from script left place ≡ walked rest end
-    → (event_refusal script place ≡ 0) × ((more : List (List ℕ)) × (rest ≡ frame_at script place ∷ more) × (events_from script (left - 1) (next_at script place) ≡ walked more end))
-unfolding events_from
-next_event script left place rest end h e = go (eqb (event_refusal script place) 0) refl (ap (λ (n : ℕ). events_from script n place) (sym one_more) ∙ e)
-  where
-    one_more : left ≡ suc (left - 1)
-    one_more = omega arith
-
-    inner : Walk
-    inner = events_from script (left - 1) (next_at script place)
-
-    go : (t : Bool) → eqb (event_refusal script place) 0 ≡ t → cond t (before (frame_at script place) inner) (stopped (event_refusal script place)) ≡ walked rest end
-        → (event_refusal script place ≡ 0) × ((more : List (List ℕ)) × (rest ≡ frame_at script place ∷ more) × (inner ≡ walked more end))
-    go false u q = let z : ◌≡◌ {A = ℕ} 0 1 = cc in absurd (omega arith)
-    go true u q = (eqb-true (event_refusal script place) 0 u, before_walked (frame_at script place) inner rest end q)
-
--- no event is left
-last_event : (script : List ℕ) (left place : ℕ) (rest : List (List ℕ)) (end : ℕ) → left ≤ 0 → events_from script left place ≡ walked rest end → rest ≡ []
-unfolding events_from
-last_event script left place rest end h e =
-    let none : left ≡ 0 = omega arith in
-    let q : walked [] place ≡ walked rest end = ap (λ (n : ℕ). events_from script n place) (sym none) ∙ e in
-    cc
-
--- a walk without a refusal came through
-same_stop : (f : List ℕ) (w : Walk) → stop_in (before f w) ≡ stop_in w
-unfolding before stop_in
-same_stop f (walked es place) = refl
-same_stop f (stopped n) = refl
-
-before_through : (f : List ℕ) (w : Walk) (end : ℕ) → w ≡ walked (events_on w) end → before f w ≡ walked (events_on (before f w)) end
-unfolding before events_on
-before_through f (walked es place) end e = let q : place ≡ end = cc in rw q
-before_through f (stopped n) end e = let z : ◌≡◌ {A = ℕ} 0 1 = cc in absurd (omega arith)
-
-pub through : (script : List ℕ) (n place : ℕ) → stop_in (events_from script n place) ≡ 0 → (end : ℕ) × (events_from script n place ≡ walked (events_on (events_from script n place)) end)
-unfolding events_from stop_in events_on
-through script zero place h = (place, refl)
-through script (suc n) place h = go (eqb (event_refusal script place) 0) refl h (through script n (next_at script place))
-  where
-    inner : Walk
-    inner = events_from script n (next_at script place)
-
-    whole : Bool → Walk
-    whole t = cond t (before (frame_at script place) inner) (stopped (event_refusal script place))
-
-    go : (t : Bool) → eqb (event_refusal script place) 0 ≡ t → stop_in (whole t) ≡ 0 → (stop_in inner ≡ 0 → (end : ℕ) × (inner ≡ walked (events_on inner) end))
-        → (end : ℕ) × (whole t ≡ walked (events_on (whole t)) end)
-    go true e q f = let r = f (sym (same_stop (frame_at script place) inner) ∙ q) in (r.0, before_through (frame_at script place) inner r.0 r.1)
-    go false e q f = absurd (eqb-false (event_refusal script place) 0 e q)
-
--- one answer after the other, in each form
-kept_none : (f : Form) (i : ℕ) → kept_of f i [] ≡ []
-unfolding event_lines results_of card_results_of
-kept_none (Lines e) i = refl
-kept_none Results i = refl
-kept_none CardResults i = refl
-
-kept_more : (f : Form) (i : ℕ) (a : CardAnswer) (rest : List CardAnswer) → kept_of f i (a ∷ rest) ≡ kept_one f i a ++ kept_of f (i + 1) rest
-unfolding event_lines results_of card_results_of
-kept_more (Lines e) i a rest = refl
-kept_more Results i a rest = refl
-kept_more CardResults i a rest = refl
-
-within : (x y z : ℕ) → x ≤ y → y ≤ z → x ≤ z
-within x y z p q = omega arith
-
-same_room : (x : ℕ) → x ≤ x
-same_room x = omega arith
-
--- the room that is left after one answer more
-room_next : (f : Form) (to to' left end : ℕ) → 0 < left → to + width_of f * left ≤ end → to' ≤ to + width_of f → to' + width_of f * (left - 1) ≤ end
-room_next (Lines e) to to' left end h r m = omega arith
-room_next Results to to' left end h r m = omega arith
-room_next CardResults to to' left end h r m = omega arith
-
-room_here : (f : Form) (to left end : ℕ) → 0 < left → to + width_of f * left ≤ end → to + width_of f ≤ end
-room_here (Lines e) to left end h r = omega arith
-room_here Results to left end h r = omega arith
-room_here CardResults to left end h r = omega arith
-
-room_end : (f : Form) (to left end : ℕ) → to + width_of f * left ≤ end → to ≤ end
-room_end (Lines e) to left end r = omega arith
-room_end Results to left end r = omega arith
-room_end CardResults to left end r = omega arith
+use Rattle.play.specs.Puts.{Puts}
+use Rattle.play.specs.declared.text.Printer.{Printer}
+use Rattle.play.specs.Run.{sent_of, reading_for, events_of}
+use Rattle.play.specs.Results.{kept_of}
+use Rattle.play.proofs.Put.{puts_nothing, puts_then}
+use Rattle.play.proofs.Walks.{next_event, last_event, through}
+use Rattle.play.proofs.Whole.{parts, its_walk, its_sent, events_lawful}
 
 -- a record, an image and a session
 abbrev at_rest : CardRecord → List ℕ → Session → State
 at_rest k image s = record { card = k; image = image; session = s }
 
-module _ (form : Form) (card : CardRecord) (script : List ℕ) (image₀ out₀ : List ℕ) (at count start : ℕ) where
-  -- the events of the whole
-  abbrev all : List Sent
-  all = map sent_of (events_on (events_from script count start))
+-- the room of one answer more
+more_room : (w i : ℕ) → w * (i + 1) ≡ w * i + w
+more_room w i = ap (λ (n : ℕ). w * n) (add-one i) ∙ mul-suc w i
 
-  pub record Going (image out : List ℕ) (k : CardRecord) (s : Session) (place to i left : ℕ) : Type 0 where
+-- answers that take w bytes at most, as they are kept
+module _ (w : ℕ) (kept : ℕ → CardAnswer → List ℕ) (card : CardRecord) (script : List ℕ) (image₀ : List ℕ) (p₀ : Printer) where
+  abbrev all : List Sent
+  all = events_of card.edition script
+
+  -- before the answer to event i, with some events left
+  pub record Going (image : List ℕ) (p : Printer) (k : CardRecord) (s : Session) (place i left : ℕ) : Type 0 where
     pub rest : List (List ℕ)
     pub done : List ℕ
     pub last : ℕ
     pub ahead : events_from script left place ≡ walked rest last
-    pub put : Put out₀ at done out to
-    pub kept : done ++ kept_of form i (answers_of (at_rest k image s) (map sent_of rest)) ≡ kept_of form 1 (answers_of (begin card image₀) all)
+    pub puts : Puts p₀ done p
+    pub so_far : done ++ kept_of kept i (answers_of (at_rest k image s) (map sent_of rest)) ≡ kept_of kept 1 (answers_of (begin card image₀) all)
     pub ran : run_of (at_rest k image s) (map sent_of rest) ≡ run_of (begin card image₀) all
     pub same_image : length image ≡ length image₀
-    pub same_out : length out ≡ length out₀
     pub few : i + left ≤ 1001
-    pub room : to + width_of form * left ≤ at + width_of form * count
-    pub fits : at + width_of form * count ≤ length out₀
+    pub room : p.at + w ≤ p₀.at + w * i
+    pub fits : p₀.at + w * 1000 ≤ length p₀.out.now
 
-  pub started : (s : Session) → s ≡ fresh_of → count ≤ 1000 → at + width_of form * count ≤ length out₀ → stop_in (events_from script count start) ≡ 0
-      → Going image₀ out₀ card s start at 1 count
-  started s e c r n =
-      let t = through script count start n in
+  pub started : (h : refusal_in (reading_for card.edition script) ≡ Ok tt) (s : Session) (count start : ℕ) → s ≡ fresh_of → count ≡ event_count script → start ≡ events_start script
+      → p₀.at + w * 1000 ≤ length p₀.out.now → Going image₀ p₀ card s start 1 count
+  started h s count start e ec ea r =
+      let t = through script (event_count script) (events_start script) (events_lawful card script h) in
+      let l = parts card.edition script h in
       record {
-        rest = events_on (events_from script count start);
+        rest = its_walk script;
         done = [];
         last = t.0;
-        ahead = t.1;
-        put = record { here = sym (put_nothing out₀ at); moved = omega arith; fits = room_end form at count (length out₀) r };
-        kept = rw e;
-        ran = rw e;
+        ahead = rw (ec, ea) t.1;
+        puts = puts_nothing p₀ (omega arith);
+        so_far = rw (e, its_sent card script h);
+        ran = rw (e, its_sent card script h);
         same_image = refl;
-        same_out = refl;
-        few = omega arith;
-        room = same_room (at + width_of form * count);
+        few = omega (arith, l.few);
+        room = rw (mul-one w) (omega arith);
         fits = r;
       }
 
-  module _ {image out : List ℕ} {k : CardRecord} {s : Session} {place to i left : ℕ} (g : Going image out k s place to i left) where
+  module _ {image : List ℕ} {p : Printer} {k : CardRecord} {s : Session} {place i left : ℕ} (g : Going image p k s place i left) where
     -- there is room for an answer
-    pub answer_room : 0 < left → to + width_of form ≤ length out
+    pub answer_room : 0 < left → p.at + w ≤ length p.out.now
     answer_room h =
-        rw g.same_out (within (to + width_of form) (at + width_of form * count) (length out₀) (room_here form to left (at + width_of form * count) h g.room) g.fits)
+        let few : i ≤ 1000 = omega (arith, g.few) in
+        omega (arith, mul-le-mul_left w few, g.room, g.fits, g.puts.put.same_length)
 
     -- what the walk found here is the event that is due
     pub due : (here : Step) (frame : List ℕ) → 0 < left → here ≡ step_at script place → frame ≡ bytes_of script here.found → frame ≡ frame_at script place
@@ -172,27 +84,26 @@ module _ (form : Form) (card : CardRecord) (script : List ℕ) (image₀ out₀ 
         let n = next_event script left place g.rest g.last h g.ahead in
         f ∙ ap (λ (x : Step). bytes_of script x.found) e ∙ lawful_event script place n.0
 
-    pub turn : (a : CardAnswer) (frame image' out' : List ℕ) (place' to' : ℕ) → 0 < left → frame ≡ frame_at script place → a ≡ answer_to (at_rest k image s) (sent_of frame)
-        → image' ≡ image_upon (at_rest k image s) (sent_of frame) → length image' ≡ length image → Put out to (kept_one form i a) out' to' → to' ≤ to + width_of form
-        → place' ≡ next_at script place → Going image' out' a.card a.answer.session place' to' (i + 1) (left - 1)
-    unfolding answers_of run_of after
-    turn a frame image' out' place' to' h f ea ei li p b ep =
+    pub turn : (a : CardAnswer) (frame image' : List ℕ) (p' : Printer) (place' : ℕ) → 0 < left → frame ≡ frame_at script place → a ≡ answer_to (at_rest k image s) (sent_of frame)
+        → image' ≡ image_upon (at_rest k image s) (sent_of frame) → length image' ≡ length image → Puts p (kept i a) p' → p'.at ≤ p.at + w
+        → place' ≡ next_at script place → Going image' p' a.card a.answer.session place' (i + 1) (left - 1)
+    unfolding answers_of run_of after kept_of
+    turn a frame image' p' place' h f ea ei li x b ep =
         let n = (next_event script left place g.rest g.last h g.ahead).1 in
         let ra : g.rest ≡ frame ∷ n.0 = n.1 ∙ ap (λ (x : List ℕ). x ∷ n.0) (sym f) in
         record {
           rest = n.0;
-          done = g.done ++ kept_one form i a;
+          done = g.done ++ kept i a;
           last = g.last;
           ahead = rw ep n.2;
-          put = then g.put p;
-          kept =
-              append_assoc g.done (kept_one form i a) _ ∙ ap (λ (l : List ℕ). g.done ++ l) (sym (kept_more form i a _))
-              ∙ rw (ei, ea) (ap (λ (es : List (List ℕ)). g.done ++ kept_of form i (answers_of (at_rest k image s) (map sent_of es))) (sym ra) ∙ g.kept);
+          puts = puts_then g.puts x;
+          so_far =
+              append_assoc g.done (kept i a) _
+              ∙ rw (ei, ea) (ap (λ (es : List (List ℕ)). g.done ++ kept_of kept i (answers_of (at_rest k image s) (map sent_of es))) (sym ra) ∙ g.so_far);
           ran = rw (ei, ea) (ap (λ (es : List (List ℕ)). run_of (at_rest k image s) (map sent_of es)) (sym ra) ∙ g.ran);
           same_image = li ∙ g.same_image;
-          same_out = ap length p.here ∙ put_length out to (kept_one form i a) (omega (arith, p.moved, p.fits)) ∙ g.same_out;
           few = omega (arith, g.few);
-          room = room_next form to to' left (at + width_of form * count) h g.room b;
+          room = rw (more_room w i) (omega (arith, g.room));
           fits = g.fits;
         }
 
@@ -200,17 +111,18 @@ module _ (form : Form) (card : CardRecord) (script : List ℕ) (image₀ out₀ 
       over : g.rest ≡ []
       over = last_event script left place g.rest g.last h g.ahead
 
-      pub end_kept : Put out₀ at (kept_of form 1 (answers_of (begin card image₀) all)) out to
-      unfolding answers_of
+      pub end_kept : Puts p₀ (kept_of kept 1 (answers_of (begin card image₀) all)) p
+      unfolding answers_of kept_of
       end_kept =
-          let e : g.done ≡ kept_of form 1 (answers_of (begin card image₀) all) =
-          sym (append-nil g.done) ∙ ap (λ (l : List ℕ). g.done ++ l) (sym (kept_none form i))
-          ∙ ap (λ (es : List (List ℕ)). g.done ++ kept_of form i (answers_of (at_rest k image s) (map sent_of es))) (sym over) ∙ g.kept in
-          rw (← e) g.put
+          let e : g.done ≡ kept_of kept 1 (answers_of (begin card image₀) all) =
+          sym (append-nil g.done) ∙ ap (λ (es : List (List ℕ)). g.done ++ kept_of kept i (answers_of (at_rest k image s) (map sent_of es))) (sym over) ∙ g.so_far in
+          rw (← e) g.puts
 
       pub end_state : at_rest k image s ≡ run_of (begin card image₀) all
       unfolding run_of
       end_state = ap (λ (es : List (List ℕ)). run_of (at_rest k image s) (map sent_of es)) (sym over) ∙ g.ran
 
-      pub end_place : to ≤ at + width_of form * count
-      end_place = room_end form to left (at + width_of form * count) g.room
+      pub end_place : p.at ≤ p₀.at + w * 1000
+      end_place =
+          let few : i ≤ 1000 + 1 = omega (arith, g.few) in
+          omega (arith, mul-le-mul_left w few, more_room w 1000, g.room)

@@ -1,5 +1,5 @@
 pub mod Put
+pub mod Walks
+pub mod Whole
 pub mod Going
 pub mod Changing
-pub mod Whole
-pub mod Runs

@@ -1,8 +1,8 @@
 -- A lawful script as a whole, and its printout in three parts.
 -- Assumes nothing.
 use mathlib.Core.Path.{◌≡◌, refl, sym, ◌∙◌, ap}
-use mathlib.Core.Bool.{Bool, true, false, cond, ◌||◌, false≢true}
-use mathlib.Core.List.{List, map}
+use mathlib.Core.Bool.{Bool, true, false, ◌||◌, false≢true}
+use mathlib.Core.List.{List, [], ◌∷◌, ◌++◌, map}
 use Prim.Native.Nat.{ℕ, ◌+◌, ◌*◌, ◌≤◌}
 use native.Mathlib.Omega.{arith}
 use lib.Dec.{eqb, ltb}
@@ -15,15 +15,26 @@ use Rattle.edition.specs.Edition.{wrong_size}
 use Rattle.edition.specs.declared.Edition.{Edition}
 use Rattle.edition.specs.declared.Edition.TheVariants.{Old, Ev1}
 use Rattle.edition.specs.declared.CardRecord.{CardRecord}
-use Rattle.script.specs.Script.{Reading, lawful, refused, refusal_in, image_size, image_part, event_count, events_start, Walk, walked, stopped, events_from, no_size, body_of, ended_at, reading_of, stop_in, events_on}
-use Rattle.script.specs.Lock.{lock_refusal, locked_at, ev1_reading_of}
+use Rattle.edition.specs.Edition.{Choice}
+use Rattle.either_card.specs.Answers.{CardAnswer}
+use Rattle.std.specs.Prelude.{Ok, Err}
+use Rattle.script.specs.declared.Refusal.{Refusal}
+use Rattle.script.specs.declared.Refusal.TheVariants.{CutShort, NoSuchSize, TooManyEvents, EventTooLong, LeftOver, TooManyTypes, UnknownType}
+use Rattle.script.specs.contracts.Refusal.{the_type}
+use denote.Enum.Declared.{tag_of}
+use Rattle.std.specs.Result.{result_and, is_err}
+use Rattle.script.specs.Script.{number_of, Judged, Reading, lawful, refused, refusal_in, read_as, left_over, image_size, image_part, event_count, events_start, Walk, walked, stopped, events_from, no_size, body_of, ended_at, reading_of, stop_in, events_on}
+use Rattle.script.specs.Lock.{lock_refusal, locked_at, ev1_reading_of, chosen_in}
 use Rattle.script.proofs.Long.{long_refused, long_refused_ev1}
 use Rattle.runs.specs.Run.{begin, run_of, answers_of}
 use Rattle.play.specs.Text.{put_of, Put}
-use Rattle.play.specs.Run.{sent_of, events_in, reading_for}
-use Rattle.play.specs.Printout.{refusal_line, header_line, event_lines, changed_from, played_of, printed, printout_of, ev1_printout_of}
-use Rattle.play.proofs.Put.{put_length, then}
-use Rattle.play.proofs.Going.{through}
+use Rattle.play.specs.Puts.{Puts}
+use Rattle.play.specs.declared.text.Printer.{Printer}
+use Rattle.play.specs.Run.{sent_of, events_in, reading_for, events_of}
+use Rattle.play.specs.Results.{result_of, results_of, card_result_of, card_results_of, kept_of}
+use Rattle.play.specs.Printout.{refusal_line, header_line, event_line, event_lines, changed_from, played_of, printed, printout_of, ev1_printout_of}
+use Rattle.play.proofs.Put.{put_length, puts_then}
+use Rattle.play.proofs.Walks.{through}
 
 -- what is known of a script that comes through to the end of its events
 pub record Lawful (edition : Edition) (script : List ℕ) : Type 0 where
@@ -36,7 +47,7 @@ sized : (x y : Bool) → (x || y) ≡ false → y ≡ false
 sized true y e = absurd (false≢true (sym e))
 sized false y e = e
 
-through_body : (edition : Edition) (script : List ℕ) → stop_in (body_of edition script) ≡ 0 → Lawful edition script
+through_body : (edition : Edition) (script : List ℕ) → stop_in (body_of edition script) ≡ Ok tt → Lawful edition script
 unfolding body_of stop_in no_size
 through_body edition script h =
     go (ltb (length script) 2) refl (no_size edition (image_size script)) refl (ltb (length script) (2 + image_size script)) refl
@@ -44,11 +55,11 @@ through_body edition script h =
   where
     go : (t : Bool) → ltb (length script) 2 ≡ t → (u : Bool) → no_size edition (image_size script) ≡ u → (v : Bool) → ltb (length script) (2 + image_size script) ≡ v
         → (w : Bool) → ltb (length script) (4 + image_size script) ≡ w → (x : Bool) → ltb 1000 (event_count script) ≡ x → Lawful edition script
-    go true e u f v g w i x j = let q : ◌≡◌ {A = ℕ} 20 0 = rw e at h in absurd (omega arith)
-    go false e true f v g w i x j = let q : ◌≡◌ {A = ℕ} 21 0 = rw (e, f) at h in absurd (omega arith)
-    go false e false f true g w i x j = let q : ◌≡◌ {A = ℕ} 20 0 = rw (e, f, g) at h in absurd (omega arith)
-    go false e false f false g true i x j = let q : ◌≡◌ {A = ℕ} 20 0 = rw (e, f, g, i) at h in absurd (omega arith)
-    go false e false f false g false i true j = let q : ◌≡◌ {A = ℕ} 22 0 = rw (e, f, g, i, j) at h in absurd (omega arith)
+    go true e u f v g w i x j = let q : ◌≡◌ {A = Judged} (Err CutShort) (Ok tt) = rw e at h in cc
+    go false e true f v g w i x j = let q : ◌≡◌ {A = Judged} (Err NoSuchSize) (Ok tt) = rw (e, f) at h in cc
+    go false e false f true g w i x j = let q : ◌≡◌ {A = Judged} (Err CutShort) (Ok tt) = rw (e, f, g) at h in cc
+    go false e false f false g true i x j = let q : ◌≡◌ {A = Judged} (Err CutShort) (Ok tt) = rw (e, f, g, i) at h in cc
+    go false e false f false g false i true j = let q : ◌≡◌ {A = Judged} (Err TooManyEvents) (Ok tt) = rw (e, f, g, i, j) at h in cc
     go false e false f false g false i false j =
         record { known = sized (wrong_size edition (image_size script)) _ f; there = ltb-false (length script) (2 + image_size script) g; few = ltb-false 1000 (event_count script) j; rest = rw (e, f, g, i, j) }
 
@@ -67,30 +78,38 @@ by_end Old script = refl
 by_end Ev1 script = refl
 
 -- a reading without a refusal comes from a walk without one, and has its events
-not_stopped : (edition : Edition) (script : List ℕ) (w : Walk) → refusal_in (end_for edition script w) ≡ 0 → stop_in w ≡ 0
+not_stopped : (edition : Edition) (script : List ℕ) (w : Walk) → refusal_in (end_for edition script w) ≡ Ok tt → stop_in w ≡ Ok tt
 unfolding ended_at locked_at refusal_in stop_in
 not_stopped edition script (walked es place) h = refl
-not_stopped Old script (stopped n) h = h
-not_stopped Ev1 script (stopped n) h = h
+not_stopped Old script (stopped r) h = h
+not_stopped Ev1 script (stopped r) h = h
 
-its_events : (edition : Edition) (script : List ℕ) (es : List (List ℕ)) (place : ℕ) → refusal_in (end_for edition script (walked es place)) ≡ 0 → end_for edition script (walked es place) ≡ lawful es
-unfolding ended_at locked_at refusal_in
-its_events Old script es place = go (ltb place (length script))
-  where
-    go : (t : Bool) → refusal_in (cond t (refused 24) (lawful es)) ≡ 0 → cond t (refused 24) (lawful es) ≡ lawful es
-    go true h = absurd (omega arith)
-    go false h = refl
-its_events Ev1 script es place = go (eqb (lock_refusal script place) 0) refl
-  where
-    go : (t : Bool) → eqb (lock_refusal script place) 0 ≡ t → refusal_in (cond t (lawful es) (refused (lock_refusal script place))) ≡ 0
-        → cond t (lawful es) (refused (lock_refusal script place)) ≡ lawful es
-    go true e h = refl
-    go false e h = absurd (eqb-false (lock_refusal script place) 0 e h)
+read_lawful : (j : Judged) (es : List (List ℕ)) → refusal_in (read_as j es) ≡ Ok tt → read_as j es ≡ lawful es
+unfolding read_as refusal_in
+read_lawful (Ok u) es h = refl
+read_lawful (Err r) es h = cc
 
-pub parts : (edition : Edition) (script : List ℕ) → refusal_in (reading_for edition script) ≡ 0 → Lawful edition script
+its_events : (edition : Edition) (script : List ℕ) (es : List (List ℕ)) (place : ℕ) → refusal_in (end_for edition script (walked es place)) ≡ Ok tt → end_for edition script (walked es place) ≡ lawful es
+unfolding ended_at locked_at
+its_events Old script es place = read_lawful (left_over script place) es
+its_events Ev1 script es place = read_lawful (lock_refusal script place) es
+
+pub parts : (edition : Edition) (script : List ℕ) → refusal_in (reading_for edition script) ≡ Ok tt → Lawful edition script
 parts edition script h = through_body edition script (not_stopped edition script (body_of edition script) (ap refusal_in (sym (by_end edition script)) ∙ h))
 
-module _ (card : CardRecord) (script : List ℕ) (h : refusal_in (reading_for card.edition script) ≡ 0) where
+abbrev walk : List ℕ → Walk
+walk script = events_from script (event_count script) (events_start script)
+
+abbrev pub its_walk : List ℕ → List (List ℕ)
+its_walk script = events_on (walk script)
+
+-- lines one after the other
+lines_kept : (edition : Edition) (i : ℕ) (answers : List CardAnswer) → kept_of (event_line edition) i answers ≡ event_lines edition i answers
+unfolding kept_of event_lines
+lines_kept edition i [] = refl
+lines_kept edition i (a ∷ rest) = ap (λ (text : List ℕ). event_line edition i a ++ text) (lines_kept edition (i + 1) rest)
+
+module _ (card : CardRecord) (script : List ℕ) (h : refusal_in (reading_for card.edition script) ≡ Ok tt) where
   abbrev its : Lawful card.edition script
   its = parts card.edition script h
 
@@ -101,57 +120,97 @@ module _ (card : CardRecord) (script : List ℕ) (h : refusal_in (reading_for ca
       rw (le-leb (2 + image_size script) (length script) r)
       (length-take-le (image_size script) (drop 2 script) (simp length-drop (omega arith)))
 
-  abbrev walk : Walk
-  walk = events_from script (event_count script) (events_start script)
-
-  pub events_lawful : stop_in walk ≡ 0
+  pub events_lawful : stop_in (walk script) ≡ Ok tt
   events_lawful = ap stop_in (sym its.rest) ∙ not_stopped card.edition script (body_of card.edition script) (ap refusal_in (sym (by_end card.edition script)) ∙ h)
 
-  pub reading : reading_for card.edition script ≡ lawful (events_on walk)
+  pub reading : reading_for card.edition script ≡ lawful (its_walk script)
   reading =
       let t = through script (event_count script) (events_start script) events_lawful in
-      let e : reading_for card.edition script ≡ end_for card.edition script (walked (events_on walk) t.0) = by_end card.edition script ∙ ap (end_for card.edition script) (its.rest ∙ t.1) in
-      e ∙ its_events card.edition script (events_on walk) t.0 (ap refusal_in (sym e) ∙ h)
+      let e : reading_for card.edition script ≡ end_for card.edition script (walked (its_walk script) t.0) = by_end card.edition script ∙ ap (end_for card.edition script) (its.rest ∙ t.1) in
+      e ∙ its_events card.edition script (its_walk script) t.0 (ap refusal_in (sym e) ∙ h)
 
   abbrev whole : List ℕ
   whole = printed card script (reading_for card.edition script)
 
-  printout : whole ≡ played_of card script (map sent_of (events_on walk))
+  printout : whole ≡ played_of card script (map sent_of (its_walk script))
   unfolding printed events_in
   printout = ap (printed card script) reading
 
+  -- the events of the card's run
+  pub its_sent : map sent_of (its_walk script) ≡ events_of card.edition script
+  unfolding events_of events_in
+  its_sent = ap events_in (sym reading)
+
   -- header, events and changed blocks, one after the other
-  pub assembled : (out o₁ o₂ o₃ first image image' : List ℕ) (size count start blocks t₁ t₂ t₃ : ℕ) → first ≡ image_part script → image ≡ first
-      → size ≡ image_size script → count ≡ event_count script → start ≡ events_start script → blocks ≡ blocks_of size
-      → Put out 0 (header_line size count) o₁ t₁
-      → Put o₁ t₁ (event_lines card.edition 1 (answers_of (begin card image) (map sent_of (events_on (events_from script count start))))) o₂ t₂
-      → image' ≡ (run_of (begin card image) (map sent_of (events_on (events_from script count start)))).image
-      → Put o₂ t₂ (changed_from first image' blocks 0) o₃ t₃ → Put out 0 whole o₃ t₃
+  pub assembled : {p₀ p₁ p₂ p₃ : Printer} (first image image' : List ℕ) (size count blocks : ℕ) → first ≡ image_part script → image ≡ first
+      → size ≡ image_size script → count ≡ event_count script → blocks ≡ blocks_of size
+      → Puts p₀ (header_line size count) p₁
+      → Puts p₁ (kept_of (event_line card.edition) 1 (answers_of (begin card image) (events_of card.edition script))) p₂
+      → image' ≡ (run_of (begin card image) (events_of card.edition script)).image
+      → Puts p₂ (changed_from first image' blocks 0) p₃ → Puts p₀ whole p₃
   unfolding played_of
-  assembled out o₁ o₂ o₃ first image image' size count start blocks t₁ t₂ t₃ ef ei es ec ea eb p₁ p₂ er p₃ =
-      rw (printout, ← ef, ← es, ← ec, ← ea) (then p₁ (then (rw ei at p₂) (rw (er, ei, eb) at p₃)))
+  assembled first image image' size count blocks ef ei es ec eb x₁ x₂ er x₃ =
+      rw (printout, its_sent, ← ef, ← es, ← ec) (puts_then x₁ (puts_then (rw (ei, lines_kept) at x₂) (rw (er, ei, eb) at x₃)))
 
 -- a refusal is printed as such
-pub refusal_printed : (card : CardRecord) (script : List ℕ) (n : ℕ) → n ≡ refusal_in (reading_for card.edition script) → (n ≡ 0 → ⊥) → refusal_line n ≡ printed card script (reading_for card.edition script)
+pub refusal_printed : (card : CardRecord) (script : List ℕ) (reading : Reading) (r : Refusal) → refusal_in reading ≡ Err r → refusal_line r ≡ printed card script reading
 unfolding printed refusal_in
-refusal_printed card script n e h = go (reading_for card.edition script) e
+refusal_printed card script (lawful events) r e = cc
+refusal_printed card script (refused n) r e = let p : n ≡ r = cc in rw p
+
+-- what is read of an EV1's script is its refusal, or the choice of a lawful one
+module _ (choice : Choice) where
+  pub lawful_choice : (reading : Reading) (c : Choice) → chosen_in reading choice ≡ Ok c → (refusal_in reading ≡ Ok tt) × (c ≡ choice)
+  unfolding chosen_in refusal_in
+  lawful_choice (lawful events) c e = (refl, cc)
+  lawful_choice (refused r) c e = (cc, cc)
+
+  pub refused_choice : (reading : Reading) (r : Refusal) → chosen_in reading choice ≡ Err r → refusal_in reading ≡ Err r
+  unfolding chosen_in refusal_in
+  refused_choice (lawful events) r e = cc
+  refused_choice (refused n) r e = let p : n ≡ r = cc in rw p
+
+  pub refusal_of_choice : (reading : Reading) → result_and (chosen_in reading choice) (Ok tt) ≡ refusal_in reading
+  unfolding chosen_in refusal_in
+  refusal_of_choice (lawful events) = refl
+  refusal_of_choice (refused r) = refl
+
+-- the number of a refusal, as the code reads it
+pub as_number : (r : Refusal) → tag_of the_type r + 20 ≡ number_of r
+unfolding number_of
+as_number CutShort = refl
+as_number NoSuchSize = refl
+as_number TooManyEvents = refl
+as_number EventTooLong = refl
+as_number LeftOver = refl
+as_number TooManyTypes = refl
+as_number UnknownType = refl
+
+-- a refused script has no events
+pub no_events : (edition : Edition) (script : List ℕ) → is_err (refusal_in (reading_for edition script)) ≡ true → events_of edition script ≡ []
+unfolding events_of events_in refusal_in
+no_events edition script = go (reading_for edition script)
   where
-    go : (r : Reading) → n ≡ refusal_in r → refusal_line n ≡ printed card script r
-    go (lawful events) q = absurd (h q)
-    go (refused m) q = ap refusal_line q
+    go : (reading : Reading) → is_err (refusal_in reading) ≡ true → events_in reading ≡ []
+    go (lawful events) e = cc
+    go (refused r) e = refl
+
+-- the results of all answers
+pub results_kept : (i : ℕ) (answers : List CardAnswer) → kept_of (λ n. result_of) i answers ≡ results_of answers
+unfolding kept_of results_of
+results_kept i [] = refl
+results_kept i (a ∷ rest) = ap (λ (text : List ℕ). result_of a ++ text) (results_kept (i + 1) rest)
+
+pub card_results_kept : (i : ℕ) (answers : List CardAnswer) → kept_of (λ n. card_result_of) i answers ≡ card_results_of answers
+unfolding kept_of card_results_of
+card_results_kept i [] = refl
+card_results_kept i (a ∷ rest) = ap (λ (text : List ℕ). card_result_of a ++ text) (card_results_kept (i + 1) rest)
 
 -- what the code needs on its way, in the words of its callees
-module _ (card : CardRecord) (script : List ℕ) (h : refusal_in (reading_for card.edition script) ≡ 0) where
-  pub events_ready : (count start at len : ℕ) → count ≡ event_count script → start ≡ events_start script → at ≤ 64 → 65536 ≤ len
-      → (count ≤ 1000) × (at + 48 * count ≤ len) × (stop_in (events_from script count start) ≡ 0)
-  events_ready count start at len ec ea r l =
-      let few : count ≤ 1000 = omega (arith, (parts card.edition script h).few) in
-      (few, omega arith, rw (ec, ea) (events_lawful card script h))
-
-  pub blocks_ready : (size blocks count at place len : ℕ) → size ≡ image_size script → blocks ≡ blocks_of size → count ≡ event_count script
-      → place ≤ 64 → at ≤ place + 48 * count → 65536 ≤ len → (blocks ≤ 256) × (at + 48 * blocks + 64 ≤ len)
-  blocks_ready size blocks count at place len es eb ec p r l =
-      let few : count ≤ 1000 = omega (arith, (parts card.edition script h).few) in
+module _ (card : CardRecord) (script : List ℕ) (h : refusal_in (reading_for card.edition script) ≡ Ok tt) where
+  pub blocks_ready : (size blocks at len : ℕ) → size ≡ image_size script → blocks ≡ blocks_of size
+      → at ≤ 64 + 48 * 1000 → 65536 ≤ len → (blocks ≤ 256) × (at + 48 * blocks + 64 ≤ len)
+  blocks_ready size blocks at len es eb r l =
       let k : blocks ≤ 256 = rw (eb, es) (size_fits (image_size script) (parts card.edition script h).known).1 in
       (k, omega arith)
 

@@ -2,3 +2,4 @@ pub mod Text
 pub mod Run
 pub mod Printout
 pub mod Results
+pub mod Puts

@@ -9,16 +9,17 @@ use Rattle.edition.specs.Edition.{old_card}
 use Rattle.edition.specs.declared.Edition.{Edition}
 use Rattle.edition.specs.declared.Edition.TheVariants.{Old, Ev1}
 use Rattle.edition.specs.declared.CardRecord.{CardRecord}
-use Rattle.either_card.specs.declared.CardAnswer.{CardAnswer}
-use Rattle.script.specs.Script.{Reading, lawful, refused, image_size, image_part, event_count, reading_of}
+use Rattle.either_card.specs.Answers.{CardAnswer}
+use Rattle.script.specs.declared.Refusal.{Refusal}
+use Rattle.script.specs.Script.{number_of, Reading, lawful, refused, image_size, image_part, event_count, reading_of}
 use Rattle.script.specs.Lock.{ev1_reading_of}
 use Rattle.runs.specs.Run.{begin, Sent, run_of, answers_of}
 use Rattle.play.specs.Text.{space, newline, script_word, card_word, events_word, block_word, letter_a, letter_n, dash, decimal_of, hex_digit, hex_of}
 use Rattle.play.specs.Run.{events_in, ev1_card_of}
 
 -- `script`, a space and the number of the refusal
-unfoldable pub refusal_line : ℕ → List ℕ
-refusal_line n = script_word ++ (space ∷ (decimal_of n ++ (newline ∷ [])))
+unfoldable pub refusal_line : Refusal → List ℕ
+refusal_line r = script_word ++ (space ∷ (decimal_of (number_of r) ++ (newline ∷ [])))
 
 -- `card`, the image's size, `events` and how many they are
 unfoldable pub header_line : ℕ → ℕ → List ℕ
@@ -69,7 +70,7 @@ played_of k script events =
 
 unfoldable pub printed : CardRecord → List ℕ → Reading → List ℕ
 printed k script (lawful events) = played_of k script (events_in (lawful events))
-printed k script (refused n) = refusal_line n
+printed k script (refused r) = refusal_line r
 
 -- the whole printout of any script, on an old card
 unfoldable pub printout_of : List ℕ → List ℕ

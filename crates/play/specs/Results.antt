@@ -1,10 +1,7 @@
 -- The results of a run as bytes, for those who embed it.
-use Rattle.std.specs.Prelude.{List, [], ◌∷◌, ◌++◌, ℕ}
+use Rattle.std.specs.Prelude.{List, [], ◌∷◌, ◌++◌, ℕ, ◌+◌}
 use Rattle.card.specs.Effects.{sign_code}
-use Rattle.either_card.specs.declared.CardAnswer.{CardAnswer}
-use Rattle.play.specs.Printout.{event_line, event_lines}
-use Rattle.play.specs.declared.events.Form.{Form}
-use Rattle.play.specs.declared.events.Form.TheVariants.{Lines, Results, CardResults}
+use Rattle.either_card.specs.Answers.{CardAnswer}
 
 -- an answer of an old card: its number, its sign as a number, its sixteen reply bytes
 unfoldable pub result_of : CardAnswer → List ℕ
@@ -22,18 +19,7 @@ unfoldable pub card_results_of : List CardAnswer → List ℕ
 card_results_of [] = []
 card_results_of (a ∷ rest) = card_result_of a ++ card_results_of rest
 
--- the forms in which answers are kept: the bytes that one takes at most, the answer to event i, and all answers from event i on
-abbrev pub width_of : Form → ℕ
-width_of (Lines edition) = 48
-width_of Results = 18
-width_of CardResults = 19
-
-abbrev pub kept_one : Form → ℕ → CardAnswer → List ℕ
-kept_one (Lines edition) i a = event_line edition i a
-kept_one Results i a = result_of a
-kept_one CardResults i a = card_result_of a
-
-abbrev pub kept_of : Form → ℕ → List CardAnswer → List ℕ
-kept_of (Lines edition) i answers = event_lines edition i answers
-kept_of Results i answers = results_of answers
-kept_of CardResults i answers = card_results_of answers
+-- all answers from event i on, kept in some form
+unfoldable pub kept_of : (ℕ → CardAnswer → List ℕ) → ℕ → List CardAnswer → List ℕ
+kept_of kept i [] = []
+kept_of kept i (a ∷ rest) = kept i a ++ kept_of kept (i + 1) rest

@@ -3,8 +3,8 @@ use Rattle.std.specs.Prelude.{cond, List, [], map, ℕ, eqb, length}
 use Rattle.edition.specs.declared.Edition.{Edition}
 use Rattle.edition.specs.declared.Edition.TheVariants.{Old, Ev1}
 use Rattle.edition.specs.declared.CardRecord.{CardRecord}
-use Rattle.script.specs.Script.{Reading, lawful, refused, reading_of}
-use Rattle.script.specs.Lock.{ev1_reading_of, ev1_script_of}
+use Rattle.script.specs.Script.{Reading, lawful, refused, reading_of, body_of}
+use Rattle.script.specs.Lock.{ev1_reading_of, choice_in}
 use Rattle.runs.specs.Run.{Sent, reset, bare}
 
 -- an event of a script: an empty one is a field reset, any other a bare frame
@@ -26,4 +26,4 @@ events_of edition script = events_in (reading_for edition script)
 
 -- the record that an EV1's script begins with
 unfoldable pub ev1_card_of : List ℕ → CardRecord
-ev1_card_of script = record { edition = Ev1; choice = (ev1_script_of script).choice }
+ev1_card_of script = record { edition = Ev1; choice = choice_in script (body_of Ev1 script) }

@@ -5,11 +5,12 @@ use Rattle.std.specs.Prelude.{◌≡◌, cond, List, [], ◌∷◌, ◌++◌, �
 unfoldable pub put_of : List ℕ → ℕ → List ℕ → List ℕ
 put_of out at text = take at out ++ (text ++ drop (at + length text) out)
 
--- a text was put from a place on: what the buffer holds, the place after the text, and that it fits
+-- a text was put from a place on: what the buffer holds, the place after the text, that it fits, and that the buffer is as long as before
 pub record Put (out : List ℕ) (at : ℕ) (text last : List ℕ) (next : ℕ) : Type 0 where
   pub here : last ≡ put_of out at text
   pub moved : next ≡ at + length text
   pub fits : next ≤ length out
+  pub same_length : length last ≡ length out
 
 abbrev pub space : ℕ
 space = 32

@@ -1,27 +1,81 @@
 // The run: the events of a lawful script, one after the other, each answer kept as it comes.
-ghost use Rattle.std.specs.Prelude.{◌≡◌, ◌+◌, ◌*◌, ◌≤◌, length, map};
-ghost use Rattle.script.specs.Script.{events_from, stop_in, events_on};
+ghost use Rattle.std.specs.Prelude.{◌≡◌, ℕ, ◌+◌, ◌*◌, ◌≤◌, List, length, Ok};
+ghost use Rattle.either_card.specs.Answers.{CardAnswer};
+ghost use Rattle.script.specs.Script.{refusal_in};
 ghost use Rattle.runs.specs.Run.{begin, answer_to, image_upon, run_of, answers_of};
-ghost use Rattle.play.specs.Text.{Put};
-ghost use Rattle.play.specs.Run.{sent_of};
-ghost use Rattle.play.specs.Results.{width_of, kept_one, kept_of};
+ghost use Rattle.play.specs.Puts.{Puts};
+ghost use Rattle.play.specs.Run.{sent_of, reading_for, events_of};
+ghost use Rattle.play.specs.Printout.{event_line};
+ghost use Rattle.play.specs.Results.{result_of, card_result_of, kept_of};
 
-use crate::CardEnded;
-use crate::lines::put_event;
-use crate::results::{put_card_result, put_result};
+use crate::text::Printer;
 use edition::{CardRecord, Edition};
 use either_card::CardAnswer;
 use session::Session;
 
-// How answers are kept: each as its line of the printout, as eighteen bytes, or as nineteen with the NAK's value.
+// How answers are kept: the bytes that one takes at most, and what is put for the answer to event i.
+pub(crate) trait Form {
+    ghost width: { ℕ };
+
+    ghost kept: { Self → ℕ → CardAnswer → List ℕ };
+
+    fn keep(&self, printer: &mut Printer<'_>, i: usize, a: CardAnswer)
+        requires { printer.old.at + width ≤ length printer.old.out.now }
+        ensures puts { Puts printer.old (kept self.now i a) printer.new }
+        ensures upper_bound { printer.new.at ≤ printer.old.at + width };
+}
+
+// Each as its line of the printout.
+#[derive(Drop)]
+pub(crate) struct Lines(pub Edition);
+
+// As eighteen bytes.
+#[derive(Drop)]
+pub(crate) struct Results;
+
+// As nineteen, with the NAK's value.
+#[derive(Drop)]
+pub(crate) struct CardResults;
+
+impl Form for Lines {
+    ghost width = { 48 };
+
+    ghost kept = { λ form. event_line form.0 };
+
+    fn keep(&self, printer: &mut Printer<'_>, i: usize, a: CardAnswer) {
+        printer.event(self.0, i, a)
+    }
+}
+
+impl Form for Results {
+    ghost width = { 18 };
+
+    ghost kept = { λ form i. result_of };
+
+    fn keep(&self, printer: &mut Printer<'_>, _: usize, a: CardAnswer) {
+        printer.result(a)
+    }
+}
+
+impl Form for CardResults {
+    ghost width = { 19 };
+
+    ghost kept = { λ form i. card_result_of };
+
+    fn keep(&self, printer: &mut Printer<'_>, _: usize, a: CardAnswer) {
+        printer.card_result(a)
+    }
+}
+
+// The session and the record after the last event.
 #[derive(Clone, Copy)]
-pub(crate) enum Form {
-    Lines(Edition),
-    Results,
-    CardResults,
+pub(crate) struct Played {
+    pub(crate) session: Session,
+    pub(crate) card: CardRecord,
 }
 
 // One event: an empty one is a field reset.
+#[tactic(auto, unfolding(crate::specs::Run::sent_of, runs::specs::Run::answer_to, runs::specs::Run::image_upon))]
 fn event(image: &mut [u8], k: CardRecord, s: Session, frame: &[u8]) -> CardAnswer
     ensures value { result ≡ answer_to (record { card = k; image = image.old; session = s }) (sent_of frame.now) }
     ensures image_after { image.new ≡ image_upon (record { card = k; image = image.old; session = s }) (sent_of frame.now) }
@@ -32,60 +86,34 @@ fn event(image: &mut [u8], k: CardRecord, s: Session, frame: &[u8]) -> CardAnswe
     either_card::step(image, k, s, frame)
 }
 
-// The answer to event i, kept from a place on.
-fn keep(form: Form, out: &mut [u8], at: usize, i: usize, a: CardAnswer) -> usize
-    requires { at + width_of form ≤ length out.old }
-    ensures put { Put out.old at (kept_one form i a) out.new result }
-    ensures upper_bound { result ≤ at + width_of form }
-{
-    match form {
-        Form::Lines(edition) => put_event(edition, out, at, i, a),
-        Form::Results => put_result(out, at, a),
-        Form::CardResults => put_card_result(out, at, a),
-    }
-}
-
-// So many events from a place on, played from a fresh session.
-pub(crate) fn keep_events(
-    form: Form,
+// The events of a lawful script, played from a fresh session; each answer is kept.
+pub(crate) fn keep_events<F: Form>(
+    form: &F,
+    script: &[u8],
     card: CardRecord,
     image: &mut [u8],
-    script: &[u8],
-    count: usize,
-    start: usize,
-    out: &mut [u8],
-    at: usize,
-) -> CardEnded
-    requires { (count ≤ 1000) × (at + width_of form * count ≤ length out.old) × (stop_in (events_from script.now count start) ≡ 0) }
-    ensures put { Put out.old at (kept_of form 1 (answers_of (begin card image.old) (map sent_of (events_on (events_from script.now count start))))) out.new result.end }
-    ensures session_value { result.session ≡ (run_of (begin card image.old) (map sent_of (events_on (events_from script.now count start)))).session }
-    ensures card_value { result.card ≡ (run_of (begin card image.old) (map sent_of (events_on (events_from script.now count start)))).card }
-    ensures image_after { image.new ≡ (run_of (begin card image.old) (map sent_of (events_on (events_from script.now count start)))).image }
-    ensures end_bound { result.end ≤ at + width_of form * count }
+    printer: &mut Printer<'_>,
+) -> Played
+    requires lawful { refusal_in (reading_for card.edition script.now) ≡ Ok tt }
+    requires room { printer.old.at + F.width * 1000 ≤ length printer.old.out.now }
+    ensures puts { Puts printer.old (kept_of (F.kept form.now) 1 (answers_of (begin card image.old) (events_of card.edition script.now))) printer.new }
+    ensures session_value { result.session ≡ (run_of (begin card image.old) (events_of card.edition script.now)).session }
+    ensures card_value { result.card ≡ (run_of (begin card image.old) (events_of card.edition script.now)).card }
+    ensures image_after { image.new ≡ (run_of (begin card image.old) (events_of card.edition script.now)).image }
+    ensures end_bound { printer.new.at ≤ printer.old.at + F.width * 1000 }
 {
+    let count = script::event_count(script);
+    let mut place = script::events_start(script);
     let mut k = card;
     let mut session = session::fresh();
-    let mut place = start;
-    let mut end = at;
-    let mut i: usize = 1;
-    let mut left = count;
-    while 0 < left {
+    for i in 1..=count {
         let here = reader::event_from(script, place);
-        let found = here.found;
-        let frame = reader::bytes_of(script, found);
+        let frame = reader::bytes_of(script, here.found);
         let a = event(image, k, session, frame);
-        end = keep(form, out, end, i, a);
-        let answer = a.answer;
-        let next = answer.session;
-        session = next;
+        form.keep(printer, i, a);
+        session = a.answer.session;
         k = a.card;
         place = here.next;
-        i += 1;
-        left -= 1;
     }
-    CardEnded {
-        end,
-        session,
-        card: k,
-    }
+    Played { session, card: k }
 }

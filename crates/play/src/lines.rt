@@ -1,119 +1,92 @@
-// The lines of the printout, each put into the buffer from a place on.
+// The lines of the printout.
 ghost use Rattle.std.specs.Prelude.{◌++◌, ◌+◌, ◌≤◌, length};
-ghost use Rattle.play.specs.Text.{Put, decimal_of};
+ghost use Rattle.play.specs.Text.{decimal_of};
+ghost use Rattle.play.specs.Puts.{Puts};
 ghost use Rattle.play.specs.Printout.{refusal_line, header_line, nak_mark, mark_of, event_line, block_line};
 
-use crate::text::{low_digit, put, put_byte, put_decimal, put_hex};
+use crate::text::{Printer, low_digit};
 use card::Sign;
 use edition::Edition;
 use either_card::CardAnswer;
+use script::Refusal;
 
-// A word and a number after it.
-fn put_number(out: &mut [u8], at: usize, word: &[u8], n: usize) -> usize
-    requires { at + length word.now + 4 ≤ length out.old }
-    ensures put { Put out.old at (word.now ++ decimal_of n) out.new result }
-    ensures upper_bound { result ≤ at + length word.now + 4 }
-{
-    let number = put(out, at, word);
-    put_decimal(out, number, n)
-}
+impl Printer<'_> {
+    // A word and a number after it.
+    fn number(&mut self, word: &[u8], n: usize)
+        requires { self.old.at + length word.now + 4 ≤ length self.old.out.now }
+        ensures puts { Puts self.old (word.now ++ decimal_of n) self.new }
+        ensures upper_bound { self.new.at ≤ self.old.at + length word.now + 4 }
+    {
+        self.put(word);
+        self.decimal(n);
+    }
 
-pub(crate) fn put_refusal(out: &mut [u8], at: usize, n: u8) -> usize
-    requires { at + 64 ≤ length out.old }
-    ensures { Put out.old at (refusal_line n) out.new result }
-{
-    let end = put_number(out, at, b"script ", n as usize);
-    out[end] = b'\n';
-    end + 1
-}
+    pub(crate) fn refusal(&mut self, refusal: Refusal)
+        requires { self.old.at + 64 ≤ length self.old.out.now }
+        ensures { Puts self.old (refusal_line refusal) self.new }
+    {
+        self.number(b"script ", refusal as usize);
+        self.put(b"\n");
+    }
 
-pub(crate) fn put_header(out: &mut [u8], at: usize, size: usize, count: usize) -> usize
-    requires { at + 64 ≤ length out.old }
-    ensures put { Put out.old at (header_line size count) out.new result }
-    ensures upper_bound { result ≤ at + 64 }
-{
-    let events = put_number(out, at, b"card ", size);
-    let end = put_number(out, events, b" events ", count);
-    out[end] = b'\n';
-    end + 1
-}
+    pub(crate) fn header(&mut self, size: usize, count: usize)
+        requires { self.old.at + 64 ≤ length self.old.out.now }
+        ensures puts { Puts self.old (header_line size count) self.new }
+        ensures upper_bound { self.new.at ≤ self.old.at + 64 }
+    {
+        self.number(b"card ", size);
+        self.number(b" events ", count);
+        self.put(b"\n");
+    }
 
-// An EV1's NAK has a value, one digit. Put by calls: bytes stored here cost the players an instruction more for each event.
-fn put_nak(edition: Edition, out: &mut [u8], at: usize, nak: u8) -> usize
-    requires { at + 32 ≤ length out.old }
-    ensures put { Put out.old at (nak_mark edition nak) out.new result }
-    ensures upper_bound { result ≤ at + 32 }
-{
-    match edition {
-        Edition::Old => put_byte(out, at, b'N'),
-        Edition::Ev1 => {
-            let next = put_byte(out, at, b'N');
-            put_byte(out, next, low_digit(nak))
+    // An EV1's NAK has a value, one digit.
+    fn nak(&mut self, edition: Edition, nak: u8)
+        requires { self.old.at + 32 ≤ length self.old.out.now }
+        ensures puts { Puts self.old (nak_mark edition nak) self.new }
+        ensures upper_bound { self.new.at ≤ self.old.at + 32 }
+    {
+        match edition {
+            Edition::Old => self.put(b"N"),
+            Edition::Ev1 => self.put(&[b'N', low_digit(nak)]),
         }
     }
-}
 
-// What an answer shows.
-fn put_mark(
-    edition: Edition,
-    out: &mut [u8],
-    at: usize,
-    sign: Sign,
-    nak: u8,
-    reply: [u8; 16],
-) -> usize
-    requires { at + 32 ≤ length out.old }
-    ensures put { Put out.old at (mark_of edition sign nak reply) out.new result }
-    ensures upper_bound { result ≤ at + 32 }
-{
-    match sign {
-        Sign::Ack => {
-            out[at] = b'A';
-            at + 1
-        }
-        Sign::Nak => put_nak(edition, out, at, nak),
-        Sign::Data => put_hex(out, at, reply),
-        Sign::Nothing => {
-            out[at] = b'-';
-            at + 1
+    // What an answer shows.
+    fn mark(&mut self, edition: Edition, sign: Sign, nak: u8, reply: [u8; 16])
+        requires { self.old.at + 32 ≤ length self.old.out.now }
+        ensures puts { Puts self.old (mark_of edition sign nak reply) self.new }
+        ensures upper_bound { self.new.at ≤ self.old.at + 32 }
+    {
+        match sign {
+            Sign::Ack => self.put(b"A"),
+            Sign::Nak => self.nak(edition, nak),
+            Sign::Data => self.hex(reply),
+            Sign::Nothing => self.put(b"-"),
         }
     }
-}
 
-// An event's number, its result and what it shows.
-pub(crate) fn put_event(
-    edition: Edition,
-    out: &mut [u8],
-    at: usize,
-    i: usize,
-    a: CardAnswer,
-) -> usize
-    requires { at + 48 ≤ length out.old }
-    ensures put { Put out.old at (event_line edition i a) out.new result }
-    ensures upper_bound { result ≤ at + 48 }
-{
-    let answer = a.answer;
-    let number = answer.number;
-    let sign = answer.sign;
-    let reply = answer.reply;
-    let nak = a.nak;
-    let gap = put_decimal(out, at, i);
-    out[gap] = b' ';
-    let second = put_decimal(out, gap + 1, number as usize);
-    out[second] = b' ';
-    let end = put_mark(edition, out, second + 1, sign, nak, reply);
-    out[end] = b'\n';
-    end + 1
-}
+    // An event's number, its result and what it shows.
+    pub(crate) fn event(&mut self, edition: Edition, i: usize, a: CardAnswer)
+        requires { self.old.at + 48 ≤ length self.old.out.now }
+        ensures puts { Puts self.old (event_line edition i a) self.new }
+        ensures upper_bound { self.new.at ≤ self.old.at + 48 }
+    {
+        self.decimal(i);
+        self.put(b" ");
+        self.decimal(usize::from(a.answer.number));
+        self.put(b" ");
+        self.mark(edition, a.answer.sign, a.nak, a.answer.reply);
+        self.put(b"\n");
+    }
 
-pub(crate) fn put_block(out: &mut [u8], at: usize, b: u8, bytes: [u8; 16]) -> usize
-    requires { at + 64 ≤ length out.old }
-    ensures put { Put out.old at (block_line b bytes) out.new result }
-    ensures upper_bound { result ≤ at + 48 }
-{
-    let gap = put_number(out, at, b"block ", b as usize);
-    out[gap] = b' ';
-    let end = put_hex(out, gap + 1, bytes);
-    out[end] = b'\n';
-    end + 1
+    pub(crate) fn block(&mut self, b: u8, bytes: [u8; 16])
+        requires { self.old.at + 64 ≤ length self.old.out.now }
+        ensures puts { Puts self.old (block_line b bytes) self.new }
+        ensures upper_bound { self.new.at ≤ self.old.at + 48 }
+    {
+        self.number(b"block ", usize::from(b));
+        self.put(b" ");
+        self.hex(bytes);
+        self.put(b"\n");
+    }
 }

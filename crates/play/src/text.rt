@@ -1,26 +1,12 @@
-// Text put into a buffer from a place on; each call answers the place after it.
-ghost use Rattle.std.specs.Prelude.{◌≡◌, [], ◌∷◌, ◌+◌, ◌/◌, ◌%◌, ◌≤◌, ◌<◌, length};
-ghost use Rattle.play.specs.Text.{Put, digit, decimal_of, hex_digit, hex_of};
+// Text put into a buffer, one after the other.
+ghost use Rattle.std.specs.Prelude.{◌≡◌, ◌+◌, ◌/◌, ◌%◌, ◌≤◌, ◌<◌, length};
+ghost use Rattle.play.specs.Text.{digit, decimal_of, hex_digit, hex_of};
 
-pub(crate) fn put_byte(out: &mut [u8], at: usize, b: u8) -> usize
-    requires { at < length out.old }
-    ensures { Put out.old at (b ∷ []) out.new result }
-{
-    out[at] = b;
-    at + 1
-}
-
-pub(crate) fn put(out: &mut [u8], at: usize, text: &[u8]) -> usize
-    requires { at + length text.now ≤ length out.old }
-    ensures { Put out.old at text.now out.new result }
-{
-    let mut i = 0;
-    while i < text.len() {
-        let to = at + i;
-        out[to] = text[i];
-        i += 1;
-    }
-    at + i
+// A buffer, and the place in it where the next text is put.
+#[derive(Drop)]
+pub(crate) struct Printer<'a> {
+    pub(crate) out: &'a mut [u8],
+    pub(crate) at: usize,
 }
 
 // The last decimal digit of a number.
@@ -30,36 +16,7 @@ fn digit_of(n: usize) -> u8
     48 + (n % 10) as u8
 }
 
-pub(crate) fn put_decimal(out: &mut [u8], at: usize, n: usize) -> usize
-    requires { at + 4 ≤ length out.old }
-    ensures put { Put out.old at (decimal_of n) out.new result }
-    ensures upper_bound { result ≤ at + 4 }
-{
-    let second = at + 1;
-    if n < 10 {
-        out[at] = digit_of(n);
-        return second;
-    }
-    let third = at + 2;
-    if n < 100 {
-        out[at] = digit_of(n / 10);
-        out[second] = digit_of(n);
-        return third;
-    }
-    let fourth = at + 3;
-    if n < 1000 {
-        out[at] = digit_of(n / 100);
-        out[second] = digit_of(n / 10);
-        out[third] = digit_of(n);
-        return fourth;
-    }
-    out[at] = digit_of(n / 1000);
-    out[second] = digit_of(n / 100);
-    out[third] = digit_of(n / 10);
-    out[fourth] = digit_of(n);
-    at + 4
-}
-
+#[tactic(auto, unfolding(crate::specs::Text::hex_digit))]
 fn hex_digit(n: u8) -> u8
     requires { n < 16 }
     ensures { result ≡ hex_digit n }
@@ -82,18 +39,49 @@ pub(crate) fn low_digit(b: u8) -> u8
     hex_digit(b % 16)
 }
 
-// Sixteen bytes in hexadecimal. Both digits are put by one call: stored one by one they cost the players more instructions.
-pub(crate) fn put_hex(out: &mut [u8], at: usize, bytes: [u8; 16]) -> usize
-    requires { at + 32 ≤ length out.old }
-    ensures put { Put out.old at (hex_of bytes) out.new result }
-    ensures value { result ≡ at + 32 }
-{
-    let mut to = at;
-    let mut i: usize = 0;
-    while i < 16 {
-        let b = bytes[i];
-        to = put(out, to, &[high_digit(b), low_digit(b)]);
-        i += 1;
+impl Printer<'_> {
+    ghost use Rattle.play.specs.Puts.{Puts};
+
+    pub(crate) fn put(&mut self, text: &[u8])
+        requires { self.old.at + length text.now ≤ length self.old.out.now }
+        ensures { Puts self.old text.now self.new }
+    {
+        let end = self.at + text.len();
+        self.out[self.at..end].copy_from_slice(text);
+        self.at = end;
     }
-    to
+
+    #[tactic(auto, unfolding(crate::specs::Text::decimal_of))]
+    pub(crate) fn decimal(&mut self, n: usize)
+        requires { self.old.at + 4 ≤ length self.old.out.now }
+        ensures puts { Puts self.old (decimal_of n) self.new }
+        ensures upper_bound { self.new.at ≤ self.old.at + 4 }
+    {
+        if n < 10 {
+            return self.put(&[digit_of(n)]);
+        }
+        if n < 100 {
+            return self.put(&[digit_of(n / 10), digit_of(n)]);
+        }
+        if n < 1000 {
+            return self.put(&[digit_of(n / 100), digit_of(n / 10), digit_of(n)]);
+        }
+        self.put(&[
+            digit_of(n / 1000),
+            digit_of(n / 100),
+            digit_of(n / 10),
+            digit_of(n),
+        ])
+    }
+
+    // Sixteen bytes in hexadecimal. Both digits are put by one call: stored one by one they cost the players more instructions.
+    pub(crate) fn hex(&mut self, bytes: [u8; 16])
+        requires { self.old.at + 32 ≤ length self.old.out.now }
+        ensures puts { Puts self.old (hex_of bytes) self.new }
+        ensures value { self.new.at ≡ self.old.at + 32 }
+    {
+        for b in bytes {
+            self.put(&[high_digit(b), low_digit(b)]);
+        }
+    }
 }

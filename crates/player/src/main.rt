@@ -1,23 +1,11 @@
 // The script player: standard input in, the printout out. Nothing is decided here.
 #![tactic(auto)]
 
-ghost use Rattle.std.specs.Prelude.{◌≡◌, length};
-ghost use Rattle.std.specs.Counts.{IsPrefixLen};
-
 use std::io;
 use std::io::Read;
 
-// One byte more than the longest lawful script, so that a longer one is seen to be too long.
-fn space() -> [u8; 23101]
-    ensures { 23101 ≡ length result }
-{
-    [0u8; 23101]
-}
-
-// Reads until the space is full, the input ends or a read fails, and answers how many bytes came.
-fn fill(input: &mut impl Read, space: &mut [u8]) -> usize
-    ensures { IsPrefixLen result space.new }
-{
+// Reads until the space is full, the input ends or a read fails, and hands back what came.
+fn fill<'a>(input: &mut impl Read, space: &'a mut [u8]) -> &'a [u8] {
     let mut done = 0;
     while done < space.len() {
         match input.read(&mut space[done..]) {
@@ -25,13 +13,13 @@ fn fill(input: &mut impl Read, space: &mut [u8]) -> usize
             Ok(n) => done += n,
         }
     }
-    done
+    &space[..done]
 }
 
 fn main(rt: HostRuntime) -> io::Result<()> {
-    let mut input = space();
-    let n = fill(&mut rt.stdin(), &mut input);
+    // One byte more than the longest lawful script, so that a longer one is seen to be too long.
+    let mut space = [0u8; 23101];
     let mut out = [0u8; 65536];
-    let length = play::play(&input[..n], &mut out);
+    let length = play::play(fill(&mut rt.stdin(), &mut space), &mut out);
     rt.write_all(&out[..length])
 }

@@ -1,16 +1,17 @@
 -- What a walk over a script meets at a place.
-use Rattle.std.specs.Prelude.{cond, List, [], ℕ, ◌+◌, eqb, ltb, leb, length, get_or, take, drop}
+use Rattle.std.specs.Prelude.{cond, List, [], ℕ, ◌+◌, ltb, leb, length, get_or, take, drop, Option, Some, None, Result, Ok, Err}
+use Rattle.std.specs.Result.{result_and}
 use Rattle.script.specs.Script.{event_refusal, next_at}
-use Rattle.reader.specs.declared.Found.{Found}
-use Rattle.reader.specs.declared.Found.TheVariants.{Event, End, Refused}
+use Rattle.script.specs.declared.Refusal.{Refusal}
+use Rattle.reader.specs.declared.Event.{Event}
 use Rattle.reader.specs.declared.Step.{Step}
 
--- an event, where its bytes start and how many they are; the end; or the event's refusal
-unfoldable pub found_at : List ℕ → ℕ → Found
+-- an event, where its bytes start and how many they are, or its refusal; nothing at the end
+unfoldable pub found_at : List ℕ → ℕ → Option (Result Event Refusal)
 found_at script at =
-    cond (ltb at (length script)) (cond (eqb (event_refusal script at) 0) (Event (at + 1) (get_or script at 0)) (Refused (event_refusal script at))) End
+    cond (ltb at (length script)) (Some (result_and (event_refusal script at) (Ok (record { start = at + 1; count = get_or script at 0 })))) None
 
--- that, and where the next event stands
+-- what was found, and where the next event stands
 abbrev pub step_at : List ℕ → ℕ → Step
 step_at script at = record { found = found_at script at; next = next_at script at }
 
@@ -19,7 +20,7 @@ unfoldable pub part_of : List ℕ → ℕ → ℕ → List ℕ
 part_of script start count = cond (leb (start + count) (length script)) (take count (drop start script)) []
 
 -- the bytes of what was found: none but for an event
-unfoldable pub bytes_of : List ℕ → Found → List ℕ
-bytes_of script (Event start count) = part_of script start count
-bytes_of script End = []
-bytes_of script (Refused n) = []
+unfoldable pub bytes_of : List ℕ → Option (Result Event Refusal) → List ℕ
+bytes_of script (Some (Ok event)) = part_of script event.start event.count
+bytes_of script (Some (Err r)) = []
+bytes_of script None = []

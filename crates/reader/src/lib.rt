@@ -5,6 +5,8 @@ ghost use Rattle.std.specs.Prelude.{◌≡◌};
 ghost use Rattle.script.specs.Script.{events_start};
 ghost use Rattle.reader.specs.Reader.{found_at, step_at, part_of, bytes_of};
 
+use script::Refusal;
+
 // The script, and the place where the walk stands.
 #[derive(Clone, Copy)]
 pub struct Reader<'a> {
@@ -12,40 +14,30 @@ pub struct Reader<'a> {
     at: usize,
 }
 
-// What stands at a place: an event, with where its bytes start and how many they are; the end; or a refusal.
+// An event of the script: where its bytes start and how many they are.
 #[derive(Clone, Copy)]
-pub enum Found {
-    Event(usize, usize),
-    End,
-    Refused(u8),
+pub struct Event {
+    pub start: usize,
+    pub count: usize,
 }
 
-// What stands at a place, and where the next event does.
+// What stands at a place, an event or its refusal, and nothing at the end; and where the next event stands.
 #[derive(Clone, Copy)]
 pub struct Step {
-    pub found: Found,
+    pub found: Option<Result<Event, Refusal>>,
     pub next: usize,
 }
 
-fn wide(b: u8) -> usize
-    ensures { result ≡ b }
-{
-    b as usize
-}
-
-fn found_at(script: &[u8], at: usize) -> Found
+#[tactic(auto, unfolding(crate::specs::Reader::found_at))]
+fn found_at(script: &[u8], at: usize) -> Option<Result<Event, Refusal>>
     ensures { result ≡ found_at script.now at }
 {
     if script.len() <= at {
-        return Found::End;
-    }
-    let refusal = script::event_refusal(script, at);
-    if refusal != 0 {
-        return Found::Refused(refusal);
+        return None;
     }
     let start = at + 1;
-    let count = wide(script[at]);
-    Found::Event(start, count)
+    let count = usize::from(script[at]);
+    Some(script::event_refusal(script, at).map(|()| Event { start, count }))
 }
 
 fn step_at(script: &[u8], at: usize) -> Step
@@ -57,27 +49,24 @@ fn step_at(script: &[u8], at: usize) -> Step
 }
 
 // So many bytes of a script from a place on; none where they are not all there.
+#[tactic(auto, unfolding(crate::specs::Reader::part_of))]
 fn part(script: &[u8], start: usize, count: usize) -> &[u8]
     ensures { result.now ≡ part_of script.now start count }
 {
-    if script.len() < start {
-        return &script[..0];
-    }
-    if script.len() - start < count {
-        return &script[..0];
-    }
-    let end = start + count;
-    &script[start..end]
+    script
+        .get(start..)
+        .and_then(|rest| rest.get(..count))
+        .unwrap_or(&[])
 }
 
-// The bytes of what was found in a script.
-pub fn bytes_of(script: &[u8], found: Found) -> &[u8]
+// The bytes of what was found in a script; none but for an event.
+#[tactic(auto, unfolding(crate::specs::Reader::bytes_of))]
+pub fn bytes_of(script: &[u8], found: Option<Result<Event, Refusal>>) -> &[u8]
     ensures { result.now ≡ bytes_of script.now found }
 {
     match found {
-        Found::Event(start, count) => part(script, start, count),
-        Found::End => &script[..0],
-        Found::Refused(_) => &script[..0],
+        Some(Ok(event)) => part(script, event.start, event.count),
+        Some(Err(_)) | None => &[],
     }
 }
 
@@ -94,6 +83,7 @@ pub fn open<'a>(script: &'a [u8]) -> Reader<'a>
     stand(script, script::events_start(script))
 }
 
+// No Iterator: `next` promises a whole step (docs/PROMISES.md), and an item would not say where the next event stands.
 impl<'a> Reader<'a> {
     // Where the walk stands.
     pub fn place(self) -> usize

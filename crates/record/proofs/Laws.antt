@@ -1,5 +1,6 @@
 -- Sessions and their records, both ways.
 -- Assumes nothing.
+use Rattle.std.proofs.Common.{None, Some}
 use mathlib.Core.Path.{◌≡◌, refl, sym, ap}
 use mathlib.Core.Bool.{Bool, true, false, cond}
 use mathlib.Core.List.{List}
@@ -10,22 +11,19 @@ use lib.ListN.{get_or}
 use Rattle.access.specs.declared.rights.Letter.TheVariants.{KeyA, KeyB}
 use Rattle.value.specs.Block.{word_of}
 use Rattle.value.proofs.Blocks.{four_back, same_refl, same_eq}
-use Rattle.session.specs.declared.Auth.{Auth}
-use Rattle.session.specs.declared.Auth.TheVariants.{Nobody, As}
+use Rattle.session.specs.Session.{Auth}
 use Rattle.session.specs.declared.Kind.TheVariants.{Increment, Decrement, Restore}
 use Rattle.session.specs.declared.Stage.{Stage}
 use Rattle.session.specs.declared.Stage.TheVariants.{Idle, WriteWaits, ValueWaits}
-use Rattle.session.specs.declared.Register.{Register}
-use Rattle.session.specs.declared.Register.TheVariants.{Empty, Full}
+use Rattle.session.specs.Session.{Register}
 use Rattle.session.specs.declared.Session.{Session}
 use Rattle.record.specs.Record.{who_code, sector_byte, stage_code, block_byte, full_code, address_byte, value_bits, record_of, auth_by, stage_by, register_by, value_in, named_by, is_record, found_in, stray_of, session_in, session_from}
-use Rattle.record.specs.declared.Found.TheVariants as found
 
 auth_back : (auth : Auth) → auth_by (who_code auth) (sector_byte auth) ≡ auth
 unfolding auth_by
-auth_back Nobody = refl
-auth_back (As t KeyA) = refl
-auth_back (As t KeyB) = refl
+auth_back None = refl
+auth_back (Some (t, KeyA)) = refl
+auth_back (Some (t, KeyB)) = refl
 
 stage_back : (stage : Stage) → stage_by (stage_code stage) (block_byte stage) ≡ stage
 unfolding stage_by
@@ -37,8 +35,8 @@ stage_back (ValueWaits Restore b) = refl
 
 register_back : (g : Register) (v : ℕ) → v ≡ value_bits g → register_by (full_code g) (address_byte g) v ≡ g
 unfolding register_by
-register_back Empty v e = refl
-register_back (Full w a) v e = ap (λ (x : ℕ). Full x a) e
+register_back None v e = refl
+register_back (Some (w, a)) v e = ap (λ (x : ℕ). Some (x, a)) e
 
 module _ (s : Session) (fits : value_bits s.register < 4294967296) where
   -- the record of a session names that session
@@ -84,19 +82,19 @@ module _ (bytes : List ℕ) where
           let q : value_in bytes ≡ value_in (record_of (named_by bytes)) = ap value_in (same_eq bytes (record_of (named_by bytes)) e) in
           omega (arith, q, four_small (value_bits (named_by bytes).register))
 
-      either : (t : Bool) → value_in bytes < 4294967296 → value_bits (cond t (Full (value_in bytes) (get_or bytes 5 0)) Empty) < 4294967296
+      either : (t : Bool) → value_in bytes < 4294967296 → value_bits (cond t (Some (value_in bytes, get_or bytes 5 0)) None) < 4294967296
       either true h = h
       either false h = omega arith
 
-      go : (t : Bool) → is_record bytes ≡ t → value_bits (session_in (cond t (found.Session (named_by bytes)) found.Nothing)).register < 4294967296
+      go : (t : Bool) → is_record bytes ≡ t → value_bits (session_in (cond t (Some (named_by bytes)) None)).register < 4294967296
       go true e = either (eqb (get_or bytes 4 0) 1) (value_small e)
       go false e = omega arith
 
   -- the session of twelve bytes, by what was found in them
-  pub session_found : (s : Session) → found_in bytes ≡ found.Session s → session_from bytes ≡ s
+  pub session_found : (s : Session) → found_in bytes ≡ Some s → session_from bytes ≡ s
   unfolding session_from
   session_found s e = rw e
 
-  pub session_missing : found_in bytes ≡ found.Nothing → session_from bytes ≡ stray_of
+  pub session_missing : found_in bytes ≡ None → session_from bytes ≡ stray_of
   unfolding session_from
   session_missing e = rw e

@@ -1,5 +1,6 @@
 -- A record judged part by part.
 -- Assumes nothing.
+use Rattle.std.proofs.Common.{None, Some}
 use mathlib.Core.Path.{◌≡◌, refl, sym, ◌∙◌, ap}
 use mathlib.Core.Bool.{Bool, true, false, ◌&&◌, cond}
 use mathlib.Core.List.{List, [], ◌∷◌}
@@ -11,7 +12,6 @@ use borrow.Author.Tests.{eq-eqb, ne_eqb, le-ltb}
 use Rattle.value.specs.Block.{word_of, four_of, bits_in, same}
 use Rattle.value.proofs.Words.{listed}
 use Rattle.value.proofs.Blocks.{four_back, same_eq}
-use Rattle.session.specs.declared.Register.TheVariants.{Empty, Full}
 use Rattle.record.specs.Record.{value_bits, record_of, auth_by, stage_by, register_by, is_auth, is_stage, is_register, value_in, named_by, is_record}
 
 -- a number has no code below itself
@@ -94,7 +94,7 @@ value_fits : (full address value : ℕ) → value < 4294967296 → value_bits (r
 unfolding register_by
 value_fits full address value h = either (eqb full 1)
   where
-    either : (b : Bool) → value_bits (cond b (Full value address) Empty) < 4294967296
+    either : (b : Bool) → value_bits (cond b (Some (value, address)) None) < 4294967296
     either true = h
     either false = omega arith
 

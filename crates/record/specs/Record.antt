@@ -1,19 +1,15 @@
 -- The session as twelve bytes: who and sector, stage and block, full and address byte, two zeros, the value.
-use Rattle.std.specs.Prelude.{Bool, ◌&&◌, cond, List, ◌∷◌, ℕ, eqb, get_or}
+use Rattle.std.specs.Prelude.{Bool, ◌&&◌, cond, List, ◌∷◌, ℕ, eqb, get_or, None, Option, Some}
 use Rattle.access.specs.declared.rights.Letter.{Letter}
 use Rattle.access.specs.declared.rights.Letter.TheVariants.{KeyA, KeyB}
 use Rattle.value.specs.Block.{word_of, four_of, same}
-use Rattle.session.specs.declared.Auth.{Auth}
-use Rattle.session.specs.declared.Auth.TheVariants.{Nobody, As}
+use Rattle.session.specs.Session.{Auth}
 use Rattle.session.specs.declared.Kind.{Kind}
 use Rattle.session.specs.declared.Kind.TheVariants.{Increment, Decrement, Restore}
 use Rattle.session.specs.declared.Stage.{Stage}
 use Rattle.session.specs.declared.Stage.TheVariants.{Idle, WriteWaits, ValueWaits}
-use Rattle.session.specs.declared.Register.{Register}
-use Rattle.session.specs.declared.Register.TheVariants.{Empty, Full}
+use Rattle.session.specs.Session.{Register}
 use Rattle.session.specs.declared.Session.{Session}
-use Rattle.record.specs.declared.Found.{Found}
-use Rattle.record.specs.declared.Found.TheVariants as found
 
 -- who is authenticated: 0 nobody, 1 key A, 2 key B; and for which sector
 abbrev pub letter_code : Letter → ℕ
@@ -21,12 +17,12 @@ letter_code KeyA = 1
 letter_code KeyB = 2
 
 abbrev pub who_code : Auth → ℕ
-who_code Nobody = 0
-who_code (As t l) = letter_code l
+who_code None = 0
+who_code (Some (t, l)) = letter_code l
 
 abbrev pub sector_byte : Auth → ℕ
-sector_byte Nobody = 0
-sector_byte (As t l) = t.0
+sector_byte None = 0
+sector_byte (Some (t, l)) = t.0
 
 -- which second frame is awaited: 0 none, 1 a Write's, 2 increment, 3 decrement, 4 restore; and for which block
 abbrev pub kind_code : Kind → ℕ
@@ -46,16 +42,16 @@ block_byte (ValueWaits k b) = b.0
 
 -- the register: 0 empty, 1 full; its address byte and its value
 abbrev pub full_code : Register → ℕ
-full_code Empty = 0
-full_code (Full v a) = 1
+full_code None = 0
+full_code (Some (v, a)) = 1
 
 abbrev pub address_byte : Register → ℕ
-address_byte Empty = 0
-address_byte (Full v a) = a
+address_byte None = 0
+address_byte (Some (v, a)) = a
 
 abbrev pub value_bits : Register → ℕ
-value_bits Empty = 0
-value_bits (Full v a) = v
+value_bits None = 0
+value_bits (Some (v, a)) = v
 
 -- the record of a session
 unfoldable pub record_of : Session → List ℕ
@@ -72,7 +68,7 @@ record_of s =
 
 -- the parts that codes name; an unknown code names none
 unfoldable pub auth_by : ℕ → ℕ → Auth
-auth_by who sector = cond (eqb who 1) (As (record { 0 = sector }) KeyA) (cond (eqb who 2) (As (record { 0 = sector }) KeyB) Nobody)
+auth_by who sector = cond (eqb who 1) (Some (record { 0 = sector }, KeyA)) (cond (eqb who 2) (Some (record { 0 = sector }, KeyB)) None)
 
 unfoldable pub stage_by : ℕ → ℕ → Stage
 stage_by code block =
@@ -82,7 +78,7 @@ stage_by code block =
     (cond (eqb code 4) (ValueWaits Restore (record { 0 = block })) Idle)))
 
 unfoldable pub register_by : ℕ → ℕ → ℕ → Register
-register_by full address value = cond (eqb full 1) (Full value address) Empty
+register_by full address value = cond (eqb full 1) (Some (value, address)) None
 
 -- codes and bytes are those of the part that they name
 unfoldable pub is_auth : ℕ → ℕ → Bool
@@ -114,17 +110,17 @@ unfoldable pub is_record : List ℕ → Bool
 is_record bytes = same bytes (record_of (named_by bytes))
 
 -- what twelve bytes hold: the session whose record they are, or nothing
-unfoldable pub found_in : List ℕ → Found
-found_in bytes = cond (is_record bytes) (found.Session (named_by bytes)) found.Nothing
+unfoldable pub found_in : List ℕ → Option Session
+found_in bytes = cond (is_record bytes) (Some (named_by bytes)) None
 
 -- what stands for bytes that are no record: a session that 12 refuses, with every image
 abbrev pub stray_of : Session
-stray_of = record { auth = Nobody; stage = Idle; register = Full 0 0 }
+stray_of = record { auth = None; stage = Idle; register = Some (0, 0) }
 
 -- the session found, or the one that stands for none
-abbrev pub session_in : Found → Session
-session_in (found.Session s) = s
-session_in found.Nothing = stray_of
+abbrev pub session_in : Option Session → Session
+session_in (Some s) = s
+session_in None = stray_of
 
 -- the session of twelve bytes
 unfoldable pub session_from : List ℕ → Session

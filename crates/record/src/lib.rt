@@ -10,27 +10,17 @@ mod named;
 
 use session::Session;
 
-// What twelve bytes hold: a session, or they are no session's record.
-#[derive(Clone, Copy)]
-pub enum Found {
-    Session(Session),
-    Nothing,
-}
-
 // The record of a session.
 pub fn encode(s: Session) -> [u8; 12]
     ensures { result ≡ record_of s }
 {
-    let auth = s.auth;
-    let stage = s.stage;
-    let register = s.register;
-    let who = codes::who_code(auth);
-    let sector = codes::sector_byte(auth);
-    let code = codes::stage_code(stage);
-    let block = codes::block_byte(stage);
-    let full = codes::full_code(register);
-    let address = codes::address_byte(register);
-    let value = value::four(codes::value_bits(register));
+    let who = codes::who_code(s.auth);
+    let sector = codes::sector_byte(s.auth);
+    let code = codes::stage_code(s.stage);
+    let block = codes::block_byte(s.stage);
+    let full = codes::full_code(s.register);
+    let address = codes::address_byte(s.register);
+    let value = value::four(codes::value_bits(s.register));
     [
         who, sector, code, block, full, address, 0, 0, value[0], value[1], value[2], value[3],
     ]
@@ -52,12 +42,12 @@ fn named_by(bytes: [u8; 12]) -> Session
 }
 
 // The session of a record; any other twelve bytes hold none.
-pub fn decode(bytes: [u8; 12]) -> Found
+pub fn decode(bytes: [u8; 12]) -> Option<Session>
     ensures { result ≡ found_in bytes }
 {
     if judged::is_record(bytes) {
-        Found::Session(named_by(bytes))
+        Some(named_by(bytes))
     } else {
-        Found::Nothing
+        None
     }
 }

@@ -6,7 +6,7 @@ use Rattle.card.specs.Effects.{session_of, image_of}
 use Rattle.card.specs.Step.{answered}
 use Rattle.sealed.specs.Sealed.{inner_of, sealed_of}
 use Rattle.either_card.specs.Either.{personal, given_for, card_answer_of, card_image_after, sealed_card_of, sealed_card_answer_of, sealed_card_image_after}
-use Rattle.either_card.specs.declared.CardAnswer.{CardAnswer}
+use Rattle.either_card.specs.Answers.{CardAnswer}
 use Rattle.kept.specs.Kept.{settled_by, kept_for, kept_answer_of, kept_image_after, sealed_kept_of, sealed_kept_answer_of, sealed_kept_image_after}
 use Rattle.runs.specs.Run.{Sent, reset, bare, sealed, answer_to, image_upon, after, frame_in, act_of}
 use Rattle.runs.specs.Kept.{KeptState, kept_answer_to, figures_upon, kept_image_upon, kept_after, kept_run_of, kept_answers_of, kept_act_in, kept_acted}

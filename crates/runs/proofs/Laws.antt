@@ -5,11 +5,11 @@ use mathlib.Core.List.{List, [], ◌∷◌, ◌++◌}
 use mathlib.Core.Bool.{Bool, true, false, cond}
 use Rattle.card.specs.Effects.{session_of, image_of}
 use Rattle.card.specs.Step.{answered}
-use Rattle.card.specs.declared.Answer.{Answer}
+use Rattle.card.specs.Answers.{Answer}
 use Rattle.sealed.specs.Sealed.{inner_of, sealed_of}
 use Rattle.either_card.specs.Personal.{acknowledged}
 use Rattle.either_card.specs.Either.{personal, given_for, card_answer_of, card_image_after, sealed_card_of, sealed_card_answer_of, sealed_card_image_after}
-use Rattle.either_card.specs.declared.CardAnswer.{CardAnswer}
+use Rattle.either_card.specs.Answers.{CardAnswer}
 use Rattle.runs.specs.Run.{State, Sent, reset, bare, sealed, answer_to, image_upon, after, run_of, answers_of, frame_in, act_of, acted}
 
 -- a 40h leaves the session that its act leaves

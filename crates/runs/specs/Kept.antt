@@ -3,11 +3,11 @@ use Rattle.std.specs.Prelude.{List, [], ◌∷◌, ℕ}
 use Rattle.judge.specs.declared.Act.{Act}
 use Rattle.judge.specs.declared.Act.TheVariants.{Halted}
 use Rattle.edition.specs.declared.CardRecord.{CardRecord}
-use Rattle.either_card.specs.declared.CardAnswer.{CardAnswer}
-use Rattle.tally.specs.Full.{opened_of}
+use Rattle.either_card.specs.Answers.{CardAnswer}
+use Rattle.tally.specs.Full.{full_figures}
 use Rattle.tally.specs.declared.change.Figures.{Figures}
 use Rattle.kept.specs.Kept.{settled_by, figures_by, bare_kept, sealed_kept, kept_answer_of, kept_image_after, sealed_kept_answer_of, sealed_kept_image_after, kept_reset_of}
-use Rattle.runs.specs.Run.{State, begin, Sent, reset, bare, sealed, longer_card, acted}
+use Rattle.runs.specs.Run.{State, begin, Sent, reset, bare, sealed, acted}
 
 -- what lasts from one event to the next
 pub record KeptState : Type 0 where
@@ -16,13 +16,13 @@ pub record KeptState : Type 0 where
 
 -- a card as it is opened: a fresh session, and the figures of an opening of its image
 abbrev pub opening : CardRecord → List ℕ → KeptState
-opening k image = record { state = begin k image; figures = (opened_of image).figures }
+opening k image = record { state = begin k image; figures = full_figures image }
 
 -- the answer to an event
 unfoldable pub kept_answer_to : KeptState → Sent → CardAnswer
 kept_answer_to st reset = (kept_reset_of st.state.card st.figures).answer
 kept_answer_to st (bare frame) = (kept_answer_of st.state.image st.state.card st.figures st.state.session frame).answer
-kept_answer_to st (sealed frame) = longer_card (sealed_kept_answer_of st.state.image st.state.card st.figures st.state.session frame).answer
+kept_answer_to st (sealed frame) = (sealed_kept_answer_of st.state.image st.state.card st.figures st.state.session frame).answer
 
 -- the figures after it, and the image; the record and the session are those of the answer
 unfoldable pub figures_upon : KeptState → Sent → Figures

@@ -5,13 +5,10 @@ use Rattle.session.specs.declared.Session.{Session}
 use Rattle.judge.specs.declared.Act.{Act}
 use Rattle.judge.specs.declared.Act.TheVariants.{Halted}
 use Rattle.card.specs.Effects.{session_of, image_of}
-use Rattle.card.specs.declared.Answer.{Answer}
 use Rattle.sealed.specs.Sealed.{inner_of}
-use Rattle.sealed.specs.declared.SealedAnswer.{SealedAnswer}
 use Rattle.edition.specs.declared.CardRecord.{CardRecord}
 use Rattle.either_card.specs.Either.{card_act_of, sealed_card_act_of, card_answer_of, card_image_after, sealed_card_answer_of, sealed_card_image_after, card_reset_of}
-use Rattle.either_card.specs.declared.CardAnswer.{CardAnswer}
-use Rattle.either_card.specs.declared.sealing.SealedCardAnswer.{SealedCardAnswer}
+use Rattle.either_card.specs.Answers.{CardAnswer}
 
 -- what lasts from one event to the next
 pub record State : Type 0 where
@@ -29,18 +26,11 @@ pub data Sent : Type 0 where
   bare : List ℕ → Sent
   sealed : List ℕ → Sent
 
--- an answer whose reply has eighteen bytes, beside those with sixteen
-abbrev pub longer : SealedAnswer → Answer
-longer a = record { number = a.number; sign = a.sign; reply = a.reply; session = a.session }
-
-abbrev pub longer_card : SealedCardAnswer → CardAnswer
-longer_card a = record { answer = longer a.answer; nak = a.nak; card = a.card }
-
 -- the answer to an event
 unfoldable pub answer_to : State → Sent → CardAnswer
 answer_to st reset = card_reset_of st.card
 answer_to st (bare frame) = card_answer_of st.image st.card st.session frame
-answer_to st (sealed frame) = longer_card (sealed_card_answer_of st.image st.card st.session frame)
+answer_to st (sealed frame) = sealed_card_answer_of st.image st.card st.session frame
 
 -- the image after it; the record and the session are those of the answer
 unfoldable pub image_upon : State → Sent → List ℕ

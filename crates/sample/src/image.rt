@@ -12,10 +12,8 @@ fn all_zero() -> [u8; 16] {
 }
 
 fn store_trailers(image: &mut [u8]) {
-    let mut n = 0;
-    while n < 16 {
+    for n in 0..16 {
         memory::store(image, layout::trailer_of(Sector(n)), transport());
-        n += 1;
     }
 }
 

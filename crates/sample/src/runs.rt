@@ -1,6 +1,4 @@
 // The runs. Each has an image and a session of its own; an event is its frame's length, then the frame.
-ghost use Rattle.std.specs.Prelude.{◌≤◌, ◌<◌};
-
 use crate::{image, print};
 use session::Session;
 use std::io;
@@ -18,28 +16,17 @@ fn step(
     Ok(a.session)
 }
 
-// The end of an event at a place whose frame has n bytes; at most the end of them all.
-fn end_of(at: usize, n: u8, end: usize) -> usize
-    requires { at < end }
-    ensures { (at < result) × (result ≤ end) }
-{
-    let n = n as usize;
-    if n < end - at {
-        return at + 1 + n;
-    }
-    end
-}
-
-// Plays events, numbered from 1.
+// Plays events, numbered from 1; an event that is cut short ends with them.
 fn play(rt: &impl Print, image: &mut [u8], events: &[u8]) -> io::Result<()> {
     let mut s = session::fresh();
-    let mut number: u64 = 1;
-    let mut at = 0;
-    while at < events.len() {
-        let end = end_of(at, events[at], events.len());
-        s = step(rt, image, s, number, &events[at + 1..end])?;
-        number += 1;
-        at = end;
+    let mut rest = events;
+    for number in 1..u64::MAX {
+        let Some((n, after)) = rest.split_first() else {
+            break;
+        };
+        let (frame, others) = after.split_at(after.len().min(usize::from(*n)));
+        s = step(rt, image, s, number, frame)?;
+        rest = others;
     }
     Ok(())
 }

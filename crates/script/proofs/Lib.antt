@@ -1,3 +1,2 @@
 pub mod Ways
-pub mod Locks
 pub mod Long

@@ -1,21 +1,40 @@
 -- The script format: an image and the events to play on it, each section after its count. It is judged as a whole, in reading order.
-use Rattle.std.specs.Prelude.{Bool, cond, ◌||◌, List, [], ◌∷◌, ℕ, zero, suc, ◌+◌, ◌*◌, eqb, ltb, leb, length, get_or, take, drop}
+use Rattle.std.specs.Prelude.{Bool, cond, ◌||◌, List, [], ◌∷◌, ℕ, zero, suc, ◌+◌, ◌*◌, eqb, ltb, leb, length, get_or, take, drop, Result, Ok, Err}
 use Rattle.layout.specs.Layout.{sectors_of}
 use Rattle.edition.specs.Edition.{wrong_size}
 use Rattle.edition.specs.declared.Edition.{Edition}
 use Rattle.edition.specs.declared.Edition.TheVariants.{Old}
-use Rattle.script.specs.declared.Walked.{Walked}
-use Rattle.script.specs.declared.Walked.TheVariants.{To, Stopped}
+use Rattle.script.specs.declared.Refusal.{Refusal}
+use Rattle.script.specs.declared.Refusal.TheVariants.{CutShort, NoSuchSize, TooManyEvents, EventTooLong, LeftOver, TooManyTypes, UnknownType}
 
--- what reading gives: the events, an empty one being a field reset; or the number of the refusal that was met first
+-- the number of a refusal in the printout
+unfoldable pub number_of : Refusal → ℕ
+number_of CutShort = 20
+number_of NoSuchSize = 21
+number_of TooManyEvents = 22
+number_of EventTooLong = 23
+number_of LeftOver = 24
+number_of TooManyTypes = 25
+number_of UnknownType = 26
+
+-- a part of a script is in order, or refused
+abbrev pub Judged : Type 0
+Judged = Result (Unit {0}) Refusal
+
+-- what reading gives: the events, an empty one being a field reset; or the refusal that was met first
 pub data Reading : Type 0 where
   lawful : List (List ℕ) → Reading
-  refused : ℕ → Reading
+  refused : Refusal → Reading
 
--- the number of a reading; 0 where nothing was refused
-unfoldable pub refusal_in : Reading → ℕ
-refusal_in (lawful events) = 0
-refusal_in (refused n) = n
+-- whether a reading is lawful
+unfoldable pub refusal_in : Reading → Judged
+refusal_in (lawful events) = Ok tt
+refusal_in (refused r) = Err r
+
+-- the events, if what comes after them is in order
+unfoldable pub read_as : Judged → List (List ℕ) → Reading
+read_as (Ok u) events = lawful events
+read_as (Err r) events = refused r
 
 -- a count of two bytes, low byte first; a byte past the end is 0
 unfoldable pub count_at : List ℕ → ℕ → ℕ
@@ -42,64 +61,70 @@ frame_at script at =
 unfoldable pub next_at : List ℕ → ℕ → ℕ
 next_at script at = cond (ltb at (length script)) (at + 1 + get_or script at 0) at
 
--- the refusal of the event whose count stands at a place: 20 something is missing, 23 it claims more than eighteen bytes; 0 where there is none
-unfoldable pub event_refusal : List ℕ → ℕ → ℕ
+-- the event whose count stands at a place: something is missing, or it claims more than eighteen bytes
+unfoldable pub event_refusal : List ℕ → ℕ → Judged
 event_refusal script at =
-    cond (ltb at (length script)) (cond (ltb 18 (get_or script at 0)) 23 (cond (ltb (length script) (at + 1 + get_or script at 0)) 20 0)) 20
+    cond (ltb at (length script))
+    (cond (ltb 18 (get_or script at 0)) (Err EventTooLong) (cond (ltb (length script) (at + 1 + get_or script at 0)) (Err CutShort) (Ok tt)))
+    (Err CutShort)
 
--- a walk over events: the events, and the place after the last one; or the number of the refusal that was met first
+-- a walk over events: the events, and the place after the last one; or the refusal that was met first
 pub data Walk : Type 0 where
   walked : List (List ℕ) → ℕ → Walk
-  stopped : ℕ → Walk
+  stopped : Refusal → Walk
 
 -- one event more in front
 unfoldable pub before : List ℕ → Walk → Walk
 before event (walked events place) = walked (event ∷ events) place
-before event (stopped n) = stopped n
+before event (stopped r) = stopped r
+
+-- a walk goes on, if what it has met is in order
+unfoldable pub onward : Judged → Walk → Walk
+onward (Ok u) w = w
+onward (Err r) w = stopped r
 
 -- n events from a place on
 unfoldable pub events_from : List ℕ → ℕ → ℕ → Walk
 events_from script zero at = walked [] at
 events_from script (suc n) at =
-    cond (eqb (event_refusal script at) 0) (before (frame_at script at) (events_from script n (next_at script at))) (stopped (event_refusal script at))
+    onward (event_refusal script at) (before (frame_at script at) (events_from script n (next_at script at)))
 
--- the script up to the last event, for a card of some edition: 20 again, 21 no such card has an image of that size, 22 more than a thousand events are claimed
+-- the script up to the last event, for a card of some edition: something is missing, no such card has an image of that size, or more than a thousand events are claimed
 unfoldable pub no_size : Edition → ℕ → Bool
 no_size edition size = wrong_size edition size || eqb (sectors_of size) 0
 
 unfoldable pub body_of : Edition → List ℕ → Walk
 body_of edition script =
-    cond (ltb (length script) 2) (stopped 20)
-    (cond (no_size edition (image_size script)) (stopped 21)
-    (cond (ltb (length script) (2 + image_size script)) (stopped 20)
-    (cond (ltb (length script) (4 + image_size script)) (stopped 20)
-    (cond (ltb 1000 (event_count script)) (stopped 22)
+    cond (ltb (length script) 2) (stopped CutShort)
+    (cond (no_size edition (image_size script)) (stopped NoSuchSize)
+    (cond (ltb (length script) (2 + image_size script)) (stopped CutShort)
+    (cond (ltb (length script) (4 + image_size script)) (stopped CutShort)
+    (cond (ltb 1000 (event_count script)) (stopped TooManyEvents)
     (events_from script (event_count script) (events_start script))))))
 
--- and then the end: 24 something is left over
+-- nothing is left over from a place on
+unfoldable pub left_over : List ℕ → ℕ → Judged
+left_over script at = cond (ltb at (length script)) (Err LeftOver) (Ok tt)
+
+-- and then the end
 unfoldable pub ended_at : List ℕ → Walk → Reading
-ended_at script (walked events place) = cond (ltb place (length script)) (refused 24) (lawful events)
-ended_at script (stopped n) = refused n
+ended_at script (walked events place) = read_as (left_over script place) events
+ended_at script (stopped r) = refused r
 
 -- the whole script of an old card
 unfoldable pub reading_of : List ℕ → Reading
 reading_of script = ended_at script (body_of Old script)
 
--- what is left of a walk when its events are not kept, and its refusal; 0 where there is none
-unfoldable pub place_of : Walk → Walked
-place_of (walked events place) = To place
-place_of (stopped n) = Stopped n
+-- what is left of a walk when its events are not kept; and of that whether it was stopped
+unfoldable pub place_of : Walk → Result ℕ Refusal
+place_of (walked events place) = Ok place
+place_of (stopped r) = Err r
 
-unfoldable pub stop_in : Walk → ℕ
-stop_in (walked events place) = 0
-stop_in (stopped n) = n
+unfoldable pub stop_in : Walk → Judged
+stop_in (walked events place) = Ok tt
+stop_in (stopped r) = Err r
 
 -- the events of a walk; none of one that was stopped
 unfoldable pub events_on : Walk → List (List ℕ)
 events_on (walked events place) = events
-events_on (stopped n) = []
-
--- the refusal at the end of so many bytes, for a walk that ended so
-unfoldable pub end_refusal : ℕ → Walked → ℕ
-end_refusal len (To place) = cond (ltb place len) 24 0
-end_refusal len (Stopped n) = n
+events_on (stopped r) = []

@@ -1,81 +1,62 @@
 // An EV1's script: a third section after the events, with the type that is already locked.
-ghost use Rattle.std.specs.Prelude.{◌≡◌, get_or};
-ghost use Rattle.script.specs.Lock.{left_over, lock_refusal, lock_at, ev1_script_of};
+ghost use Rattle.std.specs.Prelude.{◌≡◌};
+ghost use Rattle.edition.specs.declared.Edition.TheVariants.{Ev1};
+ghost use Rattle.script.specs.Script.{body_of};
+ghost use Rattle.script.specs.Lock.{lock_refusal, lock_at, choice_in, ev1_script_of};
 
-use crate::{Walked, body};
-use edition::{Choice, Edition};
-
-// The refusal that is met first, 0 for a lawful script, and the choice at the start.
-#[derive(Clone, Copy)]
-pub struct Ev1Script {
-    pub refusal: u8,
-    pub choice: Choice,
-}
-
-// A byte of the script; 0 past its end.
-fn byte(script: &[u8], at: usize) -> u8
-    ensures { result ≡ get_or script.now at 0 }
-{
-    if at < script.len() {
-        return script[at];
-    }
-    0
-}
-
-fn left_over(script: &[u8], at: usize) -> u8
-    ensures { result ≡ left_over script.now at }
-{
-    if at < script.len() {
-        return 24;
-    }
-    0
-}
+use crate::{Refusal, body, byte, left_over};
+use edition::{Edition, Usage};
 
 #[tactic(auto, unfolding(crate::specs::Lock::lock_refusal))]
-fn lock_refusal(script: &[u8], at: usize) -> u8
+fn lock_refusal(script: &[u8], at: usize) -> Result<(), Refusal>
     ensures { result ≡ lock_refusal script.now at }
 {
     if script.len() <= at {
-        return 20;
+        return Err(Refusal::CutShort);
     }
-    let count = byte(script, at);
+    let count = script[at];
     if 1 < count {
-        return 25;
+        return Err(Refusal::TooManyTypes);
     }
     if count == 0 {
         return left_over(script, at + 1);
     }
     if script.len() <= at + 1 {
-        return 20;
+        return Err(Refusal::CutShort);
     }
-    if edition::is_usage(byte(script, at + 1)) {
+    if edition::is_usage(script[at + 1]) {
         return left_over(script, at + 2);
     }
-    26
+    Err(Refusal::UnknownType)
 }
 
-fn lock_at(script: &[u8], at: usize) -> Choice
+// The choice that the section at a place names.
+#[tactic(auto, unfolding(crate::specs::Lock::lock_at))]
+fn lock_at(script: &[u8], at: usize) -> Option<Usage>
     ensures { result ≡ lock_at script.now at }
 {
     if script.len() <= at {
-        return Choice::Open;
+        return None;
     }
     edition::choice_by(byte(script, at), byte(script, at + 1))
 }
 
-// What is read of any script, as an EV1's.
-pub fn ev1_script(script: &[u8]) -> Ev1Script
-    ensures { result ≡ ev1_script_of script.now }
+// The choice at the start of any script, be its third section lawful or not; none where the events are not all there.
+#[tactic(auto, unfolding(crate::specs::Lock::choice_in, crate::specs::Script::place_of))]
+pub fn ev1_choice(script: &[u8]) -> Option<Usage>
+    ensures { result ≡ choice_in script.now (body_of Ev1 script.now) }
 {
     match body(Edition::Ev1, script) {
-        Walked::To(at) => {
-            let refusal = lock_refusal(script, at);
-            let choice = lock_at(script, at);
-            Ev1Script { refusal, choice }
-        }
-        Walked::Stopped(n) => Ev1Script {
-            refusal: n,
-            choice: Choice::Open,
-        },
+        Ok(at) => lock_at(script, at),
+        Err(_) => None,
     }
+}
+
+// The choice at the start of a lawful script, or the refusal that is met first.
+pub fn ev1_script(script: &[u8]) -> Result<Option<Usage>, Refusal>
+    ensures { result ≡ ev1_script_of script.now }
+{
+    let at = body(Edition::Ev1, script)?;
+    lock_refusal(script, at)?;
+    Ok(lock_at(script, at))
 }

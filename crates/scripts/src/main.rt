@@ -1,25 +1,14 @@
 // Plays the scripts of data/ one after the other: each name, and then the printout.
 #![tactic(auto)]
 
-ghost use Rattle.std.specs.Prelude.{◌≡◌, length};
-ghost use Rattle.std.specs.Counts.{IsPrefixLen};
-
 use std::env::{Env, FillError};
 use std::fs::File;
 use std::io::Read;
 use std::rt::Files;
 use std::{io, str};
 
-fn space() -> [u8; 23101]
-    ensures { 23101 ≡ length result }
-{
-    [0u8; 23101]
-}
-
-// Reads until the space is full, the file ends or a read fails, and answers how many bytes came.
-fn fill(file: &mut impl Read, space: &mut [u8]) -> usize
-    ensures { IsPrefixLen result space.new }
-{
+// Reads until the space is full, the file ends or a read fails, and hands back what came.
+fn fill<'a>(file: &mut impl Read, space: &'a mut [u8]) -> &'a [u8] {
     let mut done = 0;
     while done < space.len() {
         match file.read(&mut space[done..]) {
@@ -27,27 +16,24 @@ fn fill(file: &mut impl Read, space: &mut [u8]) -> usize
             Ok(n) => done += n,
         }
     }
-    done
+    &space[..done]
 }
 
-// Reads a file into a space, and answers how many bytes came; none where it cannot be opened, as where its path is not text.
-fn load(rt: &impl Files, path: &[u8], space: &mut [u8]) -> usize
-    ensures { IsPrefixLen result space.new }
-{
+// Reads a file into a space, and hands back what came; nothing where it cannot be opened, as where its path is not text.
+fn load<'a>(rt: &impl Files, path: &[u8], space: &'a mut [u8]) -> &'a [u8] {
     let Ok(path) = str::from_utf8(path) else {
-        return 0;
+        return &[];
     };
     match File::open(rt, path) {
         Ok(mut file) => fill(&mut file, space),
-        Err(_) => 0,
+        Err(_) => &[],
     }
 }
 
 // The name without its ending of seven bytes.
 fn print_name(rt: &impl Print, path: &[u8]) -> io::Result<()> {
     rt.write_all(b"== ")?;
-    if 7 <= path.len() {
-        let end = path.len() - 7;
+    if let Some(end) = path.len().checked_sub(7) {
         rt.write_all(&path[..end])?;
     }
     rt.write_all(b"\n")
@@ -55,10 +41,9 @@ fn print_name(rt: &impl Print, path: &[u8]) -> io::Result<()> {
 
 fn play(rt: &(impl Files + Print), path: &[u8]) -> io::Result<()> {
     print_name(rt, path)?;
-    let mut input = space();
-    let n = load(rt, path, &mut input);
+    let mut space = [0u8; 23101];
     let mut out = [0u8; 65536];
-    let length = play::play(&input[..n], &mut out);
+    let length = play::play(load(rt, path, &mut space), &mut out);
     rt.write_all(&out[..length])
 }
 

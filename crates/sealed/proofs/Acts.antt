@@ -1,10 +1,9 @@
 -- What a sealed frame does, by whether it passes 14.
 -- Assumes nothing.
-use mathlib.Core.Path.{◌≡◌, refl, sym, ◌∙◌}
-use mathlib.Core.Bool.{Bool, true, false, not}
+use mathlib.Core.Path.{◌≡◌, refl}
+use mathlib.Core.Bool.{Bool, true, false}
 use mathlib.Core.List.{List, [], ◌∷◌, ◌++◌}
 use Prim.Native.Nat.{ℕ}
-use borrow.Author.Tests.{not-true, not-false}
 use Rattle.session.specs.declared.Session.{Session}
 use Rattle.judge.specs.First.{refuses, check, first, ruled}
 use Rattle.judge.specs.Checks.{no_card, incoherent, frame_checks}
@@ -33,14 +32,13 @@ module _ (image : List ℕ) (s : Session) (frame : List ℕ) where
   unfolding sealed_act_of ruled
   refused_act n e f = rw (e, f)
 
-  -- the code's two ways, in the words of its test
-  module _ (t : Bool) (asked : t ≡ not (unsealed frame)) where
-    pub with_seal_lem : t ≡ true
-        → (answer_of image s (inner_of frame) ≡ answered image s (sealed_act_of image s frame)) × (image_after image s (inner_of frame) ≡ sealed_image_after image s frame)
-    unfolding answer_of image_after sealed_image_after
-    with_seal_lem e = rw (inner_act (not-true (unsealed frame) (sym asked ∙ e))) (refl, refl)
+  -- the code's two ways
+  pub with_seal_lem : unsealed frame ≡ false
+      → (answer_of image s (inner_of frame) ≡ answered image s (sealed_act_of image s frame)) × (image_after image s (inner_of frame) ≡ sealed_image_after image s frame)
+  unfolding answer_of image_after sealed_image_after
+  with_seal_lem e = rw (inner_act e) (refl, refl)
 
-    pub without_seal : (n : ℕ) → t ≡ false → first (frame_checks image s ++ (check 14 true ∷ [])) ≡ refuses n
-        → (refusal_of n ≡ answered image s (sealed_act_of image s frame)) × (image ≡ sealed_image_after image s frame)
-    unfolding answered number_of sign_of reply_of session_of sealed_image_after image_of
-    without_seal n e f = rw (refused_act n (not-false (unsealed frame) (sym asked ∙ e)) f) (refl, refl)
+  pub without_seal : (n : ℕ) → unsealed frame ≡ true → first (frame_checks image s ++ (check 14 true ∷ [])) ≡ refuses n
+      → (refusal_of n ≡ answered image s (sealed_act_of image s frame)) × (image ≡ sealed_image_after image s frame)
+  unfolding answered number_of sign_of reply_of session_of sealed_image_after image_of
+  without_seal n e f = rw (refused_act n e f) (refl, refl)

@@ -20,7 +20,7 @@ use Rattle.card.specs.Effects.{number_of, sign_of, refused_sign, reply_of, sessi
 use Rattle.card.specs.Step.{answered, answer_of, image_after}
 use Rattle.card.specs.declared.Sign.TheVariants.{Nak, Nothing}
 use Rattle.checksum.specs.Checksum.{crc_of, two_of}
-use Rattle.sealed.specs.declared.SealedAnswer.{SealedAnswer}
+use Rattle.card.specs.Answers.{Answer}
 use Rattle.sealed.specs.Sealed.{inner_of, seal_in, unsealed, sealed_reply, sealed_of, sealed_answer_of, sealed_image_after}
 use Rattle.sealed.proofs.Ways.{short}
 use Rattle.sealed.proofs.Acts.{inner_act, refused_act}
@@ -32,7 +32,7 @@ unfolding sealed_answer_of sealed_image_after answer_of image_after
 as_bare image s frame e = rw (inner_act image s frame e) (refl, refl)
 
 -- 14: NAK, zeros, the fresh session
-abbrev pub refused14 : SealedAnswer
+abbrev pub refused14 : Answer
 refused14 = record { number = 14; sign = Nak; reply = replicate 18 0; session = fresh_of }
 
 -- on a card and for a coherent session

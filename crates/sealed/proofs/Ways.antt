@@ -1,42 +1,23 @@
 -- The ways out of the code, in the words of its tests.
 -- Assumes nothing.
-use mathlib.Core.Path.{◌≡◌, refl, sym, ◌∙◌, ap}
-use mathlib.Core.Bool.{Bool, true, false, not, ◌&&◌, false≢true, and-true, not-not}
+use mathlib.Core.Path.{◌≡◌, refl, sym, ◌∙◌}
+use mathlib.Core.Bool.{Bool, true, false, not, false≢true}
 use mathlib.Core.List.{List, [], ◌∷◌, ◌++◌}
-use Prim.Native.Nat.{ℕ, suc, ◌+◌, ◌-◌, ◌<◌, ◌≤◌}
-use native.Mathlib.Numerals.{add-one}
-use native.Mathlib.Omega.{arith}
-use lib.Dec.{eqb, ltb}
-use lib.ListN.{length, take, drop, get_or, set, replicate, drop_of_length-le}
-use lib.Seq.{drop-cons}
-use borrow.Author.Tests.{lt-ltb, le-ltb, ltb-false}
-use Rattle.value.proofs.Words.{listed}
+use Prim.Native.Nat.{ℕ, ◌<◌, ◌≤◌}
+use lib.Dec.{ltb}
+use lib.ListN.{length, replicate}
+use borrow.Author.Tests.{lt-ltb, ltb-false}
+use borrow.Rule.Slice.PartMut.{put_mid}
+use Rattle.std.proofs.Common.{rules}
+use Rattle.std.proofs.lemmas.Slice.{overwrites}
 use Rattle.card.specs.declared.Sign.{Sign}
 use Rattle.card.specs.declared.Sign.TheVariants.{Ack, Nak, Data, Nothing}
-use Rattle.checksum.specs.Checksum.{crc_of, two_of}
-use Rattle.sealed.specs.Sealed.{inner_of, seal_in, unsealed, sealed_reply}
+use Rattle.sealed.specs.Sealed.{unsealed, sealed_reply}
 
 -- a frame that is too short does not pass
 pub short : (frame : List ℕ) → length frame < 3 → unsealed frame ≡ true
 unfolding unsealed
 short frame h = rw (lt-ltb (length frame) 3 h)
-
--- the last two bytes, one by one
-last_two : (xs : List ℕ) (n : ℕ) → length xs ≡ n + 2 → drop n xs ≡ get_or xs n 0 ∷ get_or xs (n + 1) 0 ∷ []
-last_two xs n l =
-    drop-cons xs n 0 (omega arith)
-    ∙ ap (λ (ys : List ℕ). get_or xs n 0 ∷ ys)
-    (drop-cons xs (suc n) 0 (omega arith)
-    ∙ rw (add-one, drop_of_length-le xs (let h : length xs ≤ suc (suc n) = omega arith in h)))
-
--- a longer one passes where they are those of the checksum
-pub compared : (frame : List ℕ) (two : List ℕ) → 3 ≤ length frame → two ≡ two_of (crc_of (take (length frame - 2) frame))
-    → (eqb (get_or frame (length frame - 2) 0) (get_or two 0 0) && eqb (get_or frame (length frame - 2 + 1) 0) (get_or two 1 0)) ≡ not (unsealed frame)
-unfolding unsealed inner_of seal_in two_of
-compared frame two h e =
-    let n = length frame - 2 in
-    let l : length frame ≡ n + 2 = omega arith in
-    rw (e, le-ltb (length frame) 3 h, last_two frame n l, not-not, and-true)
 
 -- so what passes has at least three bytes
 pub long : (frame : List ℕ) (t : Bool) → t ≡ not (unsealed frame) → t ≡ true → 3 ≤ length frame
@@ -47,11 +28,9 @@ long frame t e h = go (ltb (length frame) 3) refl
     go false f = ltb-false (length frame) 3 f
     go true f = absurd (false≢true (sym (e ∙ rw f) ∙ h))
 
--- the first sixteen of eighteen bytes are copied, and the last two set
-pub put_two : (bytes reply two : List ℕ) → length bytes ≡ 18 → take 16 bytes ≡ reply → two ≡ two_of (crc_of reply)
-    → set (set bytes 16 (get_or two 0 0)) 17 (get_or two 1 0) ≡ reply ++ two_of (crc_of reply)
-unfolding two_of
-put_two bytes reply two l e f = rw (f, ← e, listed 18 bytes l)
+-- what is put after the first k bytes, up to the end
+pub put_last : (k n : ℕ) (front room back : List ℕ) → length front ≡ k → length room ≡ n → put_mid k n (front ++ room) back ≡ front ++ back
+put_last k n front room back l m = search (rules, overwrites)
 
 -- what is no data has no bytes
 pub no_data_lem : (sign : Sign) (reply : List ℕ) → (sign ≡ Data → ⊥) → replicate 18 0 ≡ sealed_reply sign reply

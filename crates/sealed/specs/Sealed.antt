@@ -8,11 +8,10 @@ use Rattle.judge.specs.Judge.{judge_of}
 use Rattle.judge.specs.declared.Act.{Act}
 use Rattle.card.specs.Effects.{image_of}
 use Rattle.card.specs.Step.{answered, no_session_of}
-use Rattle.card.specs.declared.Answer.{Answer}
+use Rattle.card.specs.Answers.{Answer}
 use Rattle.card.specs.declared.Sign.{Sign}
 use Rattle.card.specs.declared.Sign.TheVariants.{Ack, Nak, Data, Nothing}
 use Rattle.checksum.specs.Checksum.{crc_of, two_of}
-use Rattle.sealed.specs.declared.SealedAnswer.{SealedAnswer}
 
 -- all bytes but the last two, and those two
 unfoldable pub inner_of : List ℕ → List ℕ
@@ -38,16 +37,16 @@ sealed_reply Data reply = reply ++ two_of (crc_of reply)
 sealed_reply Nothing reply = replicate 18 0
 
 -- an answer with its reply so, and nothing else changed
-unfoldable pub sealed_of : Answer → SealedAnswer
+unfoldable pub sealed_of : Answer → Answer
 sealed_of a = record { number = a.number; sign = a.sign; reply = sealed_reply a.sign a.reply; session = a.session }
 
 -- the answer to a frame, and the image after it
-unfoldable pub sealed_answer_of : List ℕ → Session → List ℕ → SealedAnswer
+unfoldable pub sealed_answer_of : List ℕ → Session → List ℕ → Answer
 sealed_answer_of image s frame = sealed_of (answered image s (sealed_act_of image s frame))
 
 unfoldable pub sealed_image_after : List ℕ → Session → List ℕ → List ℕ
 sealed_image_after image s frame = image_of image s.auth (sealed_act_of image s frame) (inner_of frame)
 
 -- the answer to any frame where there is no session to go by: the bare one, which shows no data
-unfoldable pub sealed_no_session_of : ℕ → SealedAnswer
+unfoldable pub sealed_no_session_of : ℕ → Answer
 sealed_no_session_of bytes = sealed_of (no_session_of bytes)

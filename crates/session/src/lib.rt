@@ -2,17 +2,10 @@
 #![tactic(auto)]
 
 ghost use Rattle.std.specs.Prelude.{◌≡◌};
-ghost use Rattle.session.specs.Session.{fresh_of, is_idle, is_empty, coherent_of, in_sector};
+ghost use Rattle.session.specs.Session.{fresh_of, is_idle, coherent_of, in_sector};
 
 use access::Letter;
 use layout::{Block, Sector};
-
-// Who is authenticated: for which sector, and under which key.
-#[derive(Clone, Copy)]
-pub enum Auth {
-    Nobody,
-    As(Sector, Letter),
-}
 
 // A value operation.
 #[derive(Clone, Copy)]
@@ -22,7 +15,7 @@ pub enum Kind {
     Restore,
 }
 
-// Which second frame is awaited, and for which block.
+// Which second frame is awaited, and for which block. No Option: being idle is a stage of its own, in the definitions and in the record's codes.
 #[derive(Clone, Copy)]
 pub enum Stage {
     Idle,
@@ -30,24 +23,18 @@ pub enum Stage {
     ValueWaits(Kind, Block),
 }
 
-// A value, as its bits, and its address byte; or nothing.
-#[derive(Clone, Copy)]
-pub enum Register {
-    Empty,
-    Full(u32, u8),
-}
-
+// Who is authenticated, if anybody: for which sector, and under which key. What the register holds, if anything: a value, as its bits, and its address byte.
 #[derive(Clone, Copy)]
 pub struct Session {
-    pub auth: Auth,
+    pub auth: Option<(Sector, Letter)>,
     pub stage: Stage,
-    pub register: Register,
+    pub register: Option<(u32, u8)>,
 }
 
 pub const FRESH: Session = Session {
-    auth: Auth::Nobody,
+    auth: None,
     stage: Stage::Idle,
-    register: Register::Empty,
+    register: None,
 };
 
 pub fn fresh() -> Session
@@ -59,42 +46,24 @@ pub fn fresh() -> Session
 pub fn is_idle(stage: Stage) -> bool
     ensures { result ≡ is_idle stage }
 {
-    match stage {
-        Stage::Idle => true,
-        Stage::WriteWaits(_) => false,
-        Stage::ValueWaits(_, _) => false,
-    }
-}
-
-fn is_empty(register: Register) -> bool
-    ensures { result ≡ is_empty register }
-{
-    match register {
-        Register::Empty => true,
-        Register::Full(_, _) => false,
-    }
+    matches!(stage, Stage::Idle)
 }
 
 // Does this session pass 12, with an image of so many bytes?
+#[tactic(auto, unfolding(crate::specs::Session::coherent_of))]
 pub fn is_coherent(bytes: usize, s: Session) -> bool
     ensures { result ≡ coherent_of bytes s }
 {
-    let auth = s.auth;
-    let stage = s.stage;
-    let register = s.register;
-    let quiet = is_idle(stage) & is_empty(register);
-    match auth {
-        Auth::Nobody => quiet,
-        Auth::As(t, _) => layout::has_sector(bytes, t),
+    match s.auth {
+        None => is_idle(s.stage) & s.register.is_none(),
+        Some((t, _)) => layout::has_sector(bytes, t),
     }
 }
 
 // Is this sector the authenticated one?
-pub fn in_sector(auth: Auth, t: Sector) -> bool
+#[tactic(auto, unfolding(crate::specs::Session::in_sector))]
+pub fn in_sector(auth: Option<(Sector, Letter)>, t: Sector) -> bool
     ensures { result ≡ in_sector auth t }
 {
-    match auth {
-        Auth::Nobody => false,
-        Auth::As(s, _) => s.0 == t.0,
-    }
+    auth.is_some_and(|(s, _)| s == t)
 }

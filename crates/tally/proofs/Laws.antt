@@ -11,10 +11,10 @@ use Rattle.memory.specs.Memory.{content_of, store_of}
 use Rattle.memory.proofs.Laws.{store_length, store_back, store_other}
 use Rattle.tally.specs.Whole.{whole, held, within}
 use Rattle.tally.specs.Change.{figures_of, count_fits, sum_fits, in_range, count_share, sum_share, kept_of, settled_of}
-use Rattle.tally.specs.Full.{counts, share_at, total_to, count_of, sum_of, opened_of}
+use Rattle.tally.specs.Full.{counts, share_at, total_to, count_of, sum_of, full_figures, opened_of}
 use Rattle.tally.specs.Laws.{CountEnds, SumEnds, KeptIs, SameContent, NotCounted, Counted, FullFits, OpeningFits, OpeningCounts, StoreOne, StoreOther, ChangeCounts, OpeningStays}
 use Rattle.tally.specs.declared.change.Figures.{Figures}
-use Rattle.tally.specs.declared.change.Settled.TheVariants.{Kept, Outside}
+use Rattle.std.specs.Prelude.{Some, None}
 use Rattle.tally.proofs.Bits.{both}
 use Rattle.tally.proofs.Shares.{raised_count, raised_sum, and_false, total_fits, total_held}
 use Rattle.tally.proofs.Ways.{kept_fit}
@@ -37,19 +37,19 @@ in_held (suc l) h hl hh (negsuc n) e =
     simp (le-ltb (18446744073709551616 - suc n) 9223372036854775808 (omega arith)) (ap negsuc q)
 
 -- and so for figures that are kept
-kept_back : (count sum : ℤ) (g : Figures) → kept_of count sum ≡ Kept g → (in_range g ≡ true) × (whole g.count ≡ count) × (whole g.sum ≡ sum)
+kept_back : (count sum : ℤ) (g : Figures) → kept_of count sum ≡ Some g → (in_range g ≡ true) × (whole g.count ≡ count) × (whole g.sum ≡ sum)
 unfolding kept_of in_range
 kept_back count sum g e = go (count_fits count) refl (sum_fits sum) refl
   where
     go : (t : Bool) → count_fits count ≡ t → (u : Bool) → sum_fits sum ≡ u → (in_range g ≡ true) × (whole g.count ≡ count) × (whole g.sum ≡ sum)
     go true p true q =
-        let k : Kept (figures_of count sum) ≡ Kept g = rw (p, q) at e in
+        let k : Some (figures_of count sum) ≡ Some g = rw (p, q) at e in
         let same : figures_of count sum ≡ g = cc in
         let c = in_held 0 255 (omega arith) (omega arith) count p in
         let s = in_held 547608330240 547608329985 (omega arith) (omega arith) sum q in
         rw (← same, c, s, p, q) (refl, refl, refl)
-    go true p false q = let k : Outside ≡ Kept g = rw (p, q) at e in let z : ◌≡◌ {A = ℕ} 0 1 = cc in absurd (omega arith)
-    go false p u q = let k : Outside ≡ Kept g = rw p at e in let z : ◌≡◌ {A = ℕ} 0 1 = cc in absurd (omega arith)
+    go true p false q = let k : None ≡ Some g = rw (p, q) at e in let z : ◌≡◌ {A = ℕ} 0 1 = cc in absurd (omega arith)
+    go false p u q = let k : None ≡ Some g = rw p at e in let z : ◌≡◌ {A = ℕ} 0 1 = cc in absurd (omega arith)
 
 pub kept_is : KeptIs
 unfolding settled_of
@@ -69,7 +69,7 @@ same_content f block hc hs e =
     let w = both (count_fits (whole f.count)) (sum_fits (whole f.sum)) e in
     ap₂ kept_of (-ℤ-+ℤ_cancel (whole f.count) (count_share block)) (-ℤ-+ℤ_cancel (whole f.sum) (sum_share block))
     ∙ kept_fit (whole f.count) (whole f.sum) w.0 w.1
-    ∙ ap₂ (λ (x y : ℕ). Kept (record { count = x; sum = y })) (held_whole f.count hc) (held_whole f.sum hs)
+    ∙ ap₂ (λ (x y : ℕ). Some (record { count = x; sum = y })) (held_whole f.count hc) (held_whole f.sum hs)
 
 pub full_fits : FullFits
 full_fits image =
@@ -84,20 +84,16 @@ sum_held : (image : List ℕ) → whole (figures_of (count_of image) (sum_of ima
 sum_held image = total_held sum_share 2147483648 2147483647 raised_sum image (blocks_of (length image)) (at_most (length image)).1
 
 -- an opening of a card
-opened_card : (image : List ℕ) → (sectors_of (length image) ≡ 0 → ⊥) → opened_of image ≡ record { number = 0; figures = figures_of (count_of image) (sum_of image) }
+opened_card : (image : List ℕ) → (sectors_of (length image) ≡ 0 → ⊥) → opened_of image ≡ Some (full_figures image)
 unfolding opened_of
 opened_card image h = rw (ne_eqb (sectors_of (length image)) 0 h)
 
 pub opening_counts : OpeningCounts
-opening_counts image h = rw (opened_card image h) (refl, count_held image, sum_held image)
+opening_counts image h = (opened_card image h, count_held image, sum_held image)
 
 pub opening_fits : OpeningFits
-unfolding opened_of in_range
-opening_fits image = go (eqb (sectors_of (length image)) 0) refl
-  where
-    go : (t : Bool) → eqb (sectors_of (length image)) 0 ≡ t → in_range (opened_of image).figures ≡ true
-    go true e = rw e
-    go false e = rw (e, count_held image, sum_held image, (full_fits image).0, (full_fits image).1)
+unfolding in_range
+opening_fits image = rw (count_held image, sum_held image, (full_fits image).0, (full_fits image).1)
 
 pub not_counted : NotCounted
 unfolding counts
@@ -214,12 +210,10 @@ unfolding settled_of
 change_counts image b bytes l c =
     let one = store_one image b bytes l c in
     let fits = full_fits (store_of image b bytes) in
-    let card = card_here (length image) b c in
-    let opened = opened_card (store_of image b bytes) (rw (store_length image b bytes l) card) in
-    rw (opened_card image card, opened, count_held image, sum_held image, ← one.0, ← one.1) (kept_fit _ _ fits.0 fits.1)
+    rw (count_held image, sum_held image, ← one.0, ← one.1) (kept_fit _ _ fits.0 fits.1)
 
 pub opening_stays : OpeningStays
 unfolding opened_of
 opening_stays image b bytes l c =
     let same = store_other_block image b bytes l c in
-    rw (same.0, same.1, store_length image b bytes l)
+    (rw (same.0, same.1, store_length image b bytes l), rw (same.0, same.1))

@@ -1,13 +1,11 @@
 -- Shares as naturals moved up, one block's and many blocks'.
 -- Assumes nothing.
-use Rattle.std.proofs.Common.{◌≡◌, ℕ, zero, suc, ◌+◌, ◌*◌, ◌%◌, ◌<◌, ◌≤◌, Bool, true, false, cond, ◌&&◌, leb, List, length, ℤ, pos, neg_ℤ, sym, refl, ◌∙◌, mul-le-mul_right, suc-mul, arith, le-leb}
+use Rattle.std.proofs.Common.{◌≡◌, ℕ, zero, suc, ◌+◌, ◌*◌, ◌%◌, ◌<◌, ◌≤◌, Bool, true, false, cond, ◌&&◌, leb, List, length, ℤ, pos, neg_ℤ, sym, refl, ◌∙◌, mul-le-mul_right, suc-mul, arith, le-leb, None, Option, Some}
 use lib.IntN.{sub_ℕ}
 use Rattle.layout.specs.Layout.{block_at, has_block}
 use Rattle.layout.specs.declared.Block.{Block}
 use Rattle.memory.specs.Memory.{content_of}
 use Rattle.value.specs.Block.{decode_of}
-use Rattle.value.specs.declared.block.Decoded.{Decoded}
-use Rattle.value.specs.declared.block.Decoded.TheVariants.{Value, NoValue}
 use Rattle.value.proofs.Ints.{sub_plus}
 use Rattle.value.proofs.Sums.{lift, signed_is}
 use Rattle.value.proofs.Blocks.{decode_small}
@@ -24,13 +22,13 @@ pub record Raised (share : List ℕ → ℤ) (mid gap : ℕ) : Type 0 where
   pub mid_small : mid ≤ 2147483648
   pub gap_small : gap < 2147483648
 
-count_up : Decoded → ℕ
-count_up (Value v a) = 1
-count_up NoValue = 0
+count_up : Option (ℕ × ℕ) → ℕ
+count_up (Some (v, a)) = 1
+count_up None = 0
 
-sum_up : Decoded → ℕ
-sum_up (Value v a) = lift v
-sum_up NoValue = 2147483648
+sum_up : Option (ℕ × ℕ) → ℕ
+sum_up (Some (v, a)) = lift v
+sum_up None = 2147483648
 
 pub raised_count : Raised count_share 0 1
 unfolding count_by count_up
@@ -42,13 +40,13 @@ raised_count = record {
   gap_small = omega arith;
 }
   where
-    is : (r : Decoded) → count_by r ≡ sub_ℕ (count_up r) 0
-    is (Value v a) = refl
-    is NoValue = refl
+    is : (r : Option (ℕ × ℕ)) → count_by r ≡ sub_ℕ (count_up r) 0
+    is (Some (v, a)) = refl
+    is None = refl
 
-    few : (r : Decoded) → count_up r ≤ 0 + 1
-    few (Value v a) = omega arith
-    few NoValue = omega arith
+    few : (r : Option (ℕ × ℕ)) → count_up r ≤ 0 + 1
+    few (Some (v, a)) = omega arith
+    few None = omega arith
 
 pub raised_sum : Raised sum_share 2147483648 2147483647
 unfolding sum_by sum_up
@@ -60,13 +58,13 @@ raised_sum = record {
   gap_small = omega arith;
 }
   where
-    is : (block : List ℕ) (r : Decoded) → decode_of block ≡ r → sum_by r ≡ sub_ℕ (sum_up r) 2147483648
-    is block (Value v a) e = signed_is v (decode_small block v a e)
-    is block NoValue e = refl
+    is : (block : List ℕ) (r : Option (ℕ × ℕ)) → decode_of block ≡ r → sum_by r ≡ sub_ℕ (sum_up r) 2147483648
+    is block (Some (v, a)) e = signed_is v (decode_small block v a e)
+    is block None e = refl
 
-    few : (r : Decoded) → sum_up r ≤ 2147483648 + 2147483647
-    few (Value v a) = omega arith
-    few NoValue = omega arith
+    few : (r : Option (ℕ × ℕ)) → sum_up r ≤ 2147483648 + 2147483647
+    few (Some (v, a)) = omega arith
+    few None = omega arith
 
 -- so many times
 abbrev pub times : ℕ → ℕ → ℕ

@@ -1,6 +1,6 @@
 -- The ways out of the code, in the words of its tests.
 -- Assumes nothing.
-use Rattle.std.proofs.Common.{◌≡◌, ℕ, ◌+◌, ◌-◌, ◌*◌, ◌%◌, ◌<◌, ◌≤◌, Bool, true, false, cond, ◌&&◌, ◌||◌, eqb, ltb, leb, List, length, replicate, ℤ, pos, ◌+ℤ◌, ◌-ℤ◌, neg_ℤ, sym, refl, ap, ◌∙◌, ap₂, add-one, arith, ltb-false, ltb-true, leb-false, leb-true}
+use Rattle.std.proofs.Common.{◌≡◌, ℕ, ◌+◌, ◌-◌, ◌*◌, ◌%◌, ◌<◌, ◌≤◌, Bool, true, false, cond, ◌&&◌, ◌||◌, eqb, ltb, leb, List, length, replicate, ℤ, pos, ◌+ℤ◌, ◌-ℤ◌, neg_ℤ, sym, refl, ap, ◌∙◌, ap₂, add-one, arith, ltb-false, ltb-true, leb-false, leb-true, None, Option, Some}
 use native.Mathlib.Nat.{add-mod, add-mod_right}
 use lib.IntN.{sub_ℕ}
 use Rattle.layout.specs.Layout.{block_at, blocks_of, has_block, is_trailer}
@@ -9,15 +9,13 @@ use Rattle.layout.proofs.Laws.{at_most}
 use Rattle.memory.specs.Memory.{content_of}
 use Rattle.value.specs.Whole.{signed}
 use Rattle.value.specs.Block.{decode_of, agreeing, encode_of}
-use Rattle.value.specs.declared.block.Decoded.{Decoded}
-use Rattle.value.specs.declared.block.Decoded.TheVariants.{Value, NoValue}
 use Rattle.value.proofs.Ints.{sub_plus, sub_minus}
 use Rattle.value.proofs.Sums.{lift, signed_is}
 use Rattle.tally.specs.Whole.{whole, held, within}
 use Rattle.tally.specs.Change.{figures_of, count_fits, sum_fits, in_range, count_by, sum_by, count_share, sum_share, added_to, taken_from, kept_of, settled_of}
 use Rattle.tally.specs.Full.{counts, share_at, total_to, count_of, sum_of}
 use Rattle.tally.specs.declared.change.Figures.{Figures}
-use Rattle.tally.specs.declared.change.Settled.TheVariants.{Kept, Outside}
+use Rattle.std.specs.Prelude.{Some, None}
 use Rattle.tally.proofs.Bits.{both, carry, whole_is, within_is, held_is, bits_minus, same_range, same_bits}
 use Rattle.tally.proofs.Shares.{Raised, raised_count, raised_sum, and_false, total_next}
 
@@ -62,12 +60,12 @@ extended_is v r hv hr e =
     i ∙ sym (ap held (signed_is v hv) ∙ held_is (lift v) 2147483648 (omega arith) (omega arith))
 
 -- the share of sixteen bytes
-module _ (block : List ℕ) (d : Decoded) (asked : d ≡ decode_of block) where
-  pub no_share : d ≡ NoValue → record { count = 0; sum = 0 } ≡ figures_of (count_share block) (sum_share block)
+module _ (block : List ℕ) (d : Option (ℕ × ℕ)) (asked : d ≡ decode_of block) where
+  pub no_share : d ≡ None → record { count = 0; sum = 0 } ≡ figures_of (count_share block) (sum_share block)
   unfolding count_by sum_by
   no_share e = rw (sym asked ∙ e)
 
-  pub its_share : (v a s : ℕ) → d ≡ Value v a → s ≡ held (signed v) → record { count = 1; sum = s } ≡ figures_of (count_share block) (sum_share block)
+  pub its_share : (v a s : ℕ) → d ≡ Some (v, a) → s ≡ held (signed v) → record { count = 1; sum = s } ≡ figures_of (count_share block) (sum_share block)
   unfolding count_by sum_by
   its_share v a s e f = rw (sym asked ∙ e, f)
 
@@ -131,7 +129,7 @@ module _ (share : List ℕ → ℤ) (mid gap : ℕ) (raised : Raised share mid g
         ∙ same_bits (255 * mid) (255 * gap) s o n mid bits small_low small-high hs (few old).0 (few new).0 (omega (arith, few old)) bits_is
         (sym (ap (within (neg_ℤ (pos (255 * mid))) (pos (255 * gap))) new_is) ∙ w)
 
-pub kept_fit : (count sum : ℤ) → count_fits count ≡ true → sum_fits sum ≡ true → kept_of count sum ≡ Kept (figures_of count sum)
+pub kept_fit : (count sum : ℤ) → count_fits count ≡ true → sum_fits sum ≡ true → kept_of count sum ≡ Some (figures_of count sum)
 unfolding kept_of
 kept_fit count sum e f = rw (e, f)
 
@@ -165,20 +163,20 @@ module _ (f less between more next : Figures) (old new : List ℕ) (hc : f.count
   unfolding in_range
   both_fit = ap₂ ◌&&◌ same_count same_sum
 
-  pub leaves : in_range next ≡ false → Outside ≡ settled_of f old new
+  pub leaves : in_range next ≡ false → None ≡ settled_of f old new
   unfolding settled_of kept_of new_count new_sum
   leaves e = sym (rw (both_fit ∙ e))
 
-  pub stays : in_range next ≡ true → Kept next ≡ settled_of f old new
+  pub stays : in_range next ≡ true → Some next ≡ settled_of f old new
   unfolding settled_of new_count new_sum
   stays e =
       let w = both (count_fits new_count) (sum_fits new_sum) (both_fit ∙ e) in
       let c : held new_count ≡ next.count = figure_bits count_share 0 1 raised_count f.count hc old new (omega arith) (omega arith) w.0 ∙ sym next_count in
       let s : held new_sum ≡ next.sum = figure_bits sum_share 2147483648 2147483647 raised_sum f.sum hs old new (omega arith) (omega arith) w.1 ∙ sym next_sum in
-      sym (kept_fit new_count new_sum w.0 w.1 ∙ ap₂ (λ (x y : ℕ). Kept (record { count = x; sum = y })) c s)
+      sym (kept_fit new_count new_sum w.0 w.1 ∙ ap₂ (λ (x y : ℕ). Some (record { count = x; sum = y })) c s)
 
 -- the share of a block of the image
-zeros_no_value : decode_of (replicate 16 0) ≡ NoValue
+zeros_no_value : decode_of (replicate 16 0) ≡ None
 unfolding decode_of agreeing encode_of
 zeros_no_value = refl
 

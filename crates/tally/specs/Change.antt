@@ -1,13 +1,9 @@
 -- The two figures, their ranges, and what they become as one block's content changes.
-use Rattle.std.specs.Prelude.{ℕ, ◌+◌, ◌-◌, ◌*◌, ◌%◌, Bool, cond, ◌&&◌, List, ℤ, pos, ◌+ℤ◌, ◌-ℤ◌, neg_ℤ}
+use Rattle.std.specs.Prelude.{ℕ, ◌+◌, ◌-◌, ◌*◌, ◌%◌, Bool, cond, ◌&&◌, List, ℤ, pos, ◌+ℤ◌, ◌-ℤ◌, neg_ℤ, None, Option, Some}
 use Rattle.value.specs.Whole.{signed}
 use Rattle.value.specs.Block.{decode_of}
-use Rattle.value.specs.declared.block.Decoded.{Decoded}
-use Rattle.value.specs.declared.block.Decoded.TheVariants.{Value, NoValue}
 use Rattle.tally.specs.Whole.{whole, held, within}
 use Rattle.tally.specs.declared.change.Figures.{Figures}
-use Rattle.tally.specs.declared.change.Settled.{Settled}
-use Rattle.tally.specs.declared.change.Settled.TheVariants.{Kept, Outside}
 
 -- a count and a sum, as figures
 abbrev pub figures_of : ℤ → ℤ → Figures
@@ -26,14 +22,14 @@ unfoldable pub in_range : Figures → Bool
 in_range f = count_fits (whole f.count) && sum_fits (whole f.sum)
 
 -- the share of sixteen bytes, by what they read as: in the count, 1 for a value block, else 0
-unfoldable pub count_by : Decoded → ℤ
-count_by (Value value address) = pos 1
-count_by NoValue = pos 0
+unfoldable pub count_by : Option (ℕ × ℕ) → ℤ
+count_by (Some (value, address)) = pos 1
+count_by None = pos 0
 
 -- and in the sum, the value of a value block, else 0
-unfoldable pub sum_by : Decoded → ℤ
-sum_by (Value value address) = signed value
-sum_by NoValue = pos 0
+unfoldable pub sum_by : Option (ℕ × ℕ) → ℤ
+sum_by (Some (value, address)) = signed value
+sum_by None = pos 0
 
 abbrev pub count_share : List ℕ → ℤ
 count_share block = count_by (decode_of block)
@@ -42,12 +38,12 @@ abbrev pub sum_share : List ℕ → ℤ
 sum_share block = sum_by (decode_of block)
 
 -- a new count and a new sum: kept where both are in range, else refused as outside
-unfoldable pub kept_of : ℤ → ℤ → Settled
-kept_of count sum = cond (count_fits count && sum_fits sum) (Kept (figures_of count sum)) Outside
+unfoldable pub kept_of : ℤ → ℤ → Option Figures
+kept_of count sum = cond (count_fits count && sum_fits sum) (Some (figures_of count sum)) None
 
 -- the figures after a block's content went from old to new: the given ones less the old share, plus the new one.
 -- Only the new figures are judged: neither the step between nor the given ones
-unfoldable pub settled_of : Figures → List ℕ → List ℕ → Settled
+unfoldable pub settled_of : Figures → List ℕ → List ℕ → Option Figures
 settled_of f old new =
     kept_of ((whole f.count -ℤ count_share old) +ℤ count_share new) ((whole f.sum -ℤ sum_share old) +ℤ sum_share new)
 

@@ -1,10 +1,10 @@
 -- The full count of an image, and its opening.
-use Rattle.std.specs.Prelude.{ℕ, zero, suc, Bool, cond, not, ◌&&◌, ◌||◌, List, length, ℤ, pos, ◌+ℤ◌, ◌==◌}
+use Rattle.std.specs.Prelude.{ℕ, zero, suc, Bool, cond, not, ◌&&◌, ◌||◌, List, length, ℤ, pos, ◌+ℤ◌, ◌==◌, Option, Some, None}
 use Rattle.layout.specs.Layout.{block_at, sectors_of, blocks_of, has_block, is_trailer}
 use Rattle.layout.specs.declared.Block.{Block}
 use Rattle.memory.specs.Memory.{content_of}
 use Rattle.tally.specs.Change.{figures_of, count_share, sum_share}
-use Rattle.tally.specs.declared.full.Opened.{Opened}
+use Rattle.tally.specs.declared.change.Figures.{Figures}
 
 -- a block counts where the card has it, and it is neither block 0 nor a trailer
 unfoldable pub counts : ℕ → Block → Bool
@@ -26,8 +26,10 @@ count_of image = total_to count_share image (blocks_of (length image))
 abbrev pub sum_of : List ℕ → ℤ
 sum_of image = total_to sum_share image (blocks_of (length image))
 
--- an opening: 11 and figures of 0 where no card has this size, else 0 and the full count
-unfoldable pub opened_of : List ℕ → Opened
-opened_of image =
-    cond (sectors_of (length image) == 0) (record { number = 11; figures = figures_of (pos 0) (pos 0) })
-    (record { number = 0; figures = figures_of (count_of image) (sum_of image) })
+-- as figures
+abbrev pub full_figures : List ℕ → Figures
+full_figures image = figures_of (count_of image) (sum_of image)
+
+-- an opening: the full count, and none where no card has this size
+unfoldable pub opened_of : List ℕ → Option Figures
+opened_of image = cond (sectors_of (length image) == 0) None (Some (full_figures image))

@@ -1,13 +1,12 @@
 -- What the figures can be relied on for: what a change gives, and that the figures of an opening are the full count and one store after the other keeps them so.
-use Rattle.std.specs.Prelude.{◌≡◌, ℕ, ◌<◌, true, false, ◌||◌, List, length, pos, negsuc, ◌+ℤ◌, ◌-ℤ◌, ◌==◌, ◌≢◌}
+use Rattle.std.specs.Prelude.{◌≡◌, ℕ, ◌<◌, true, false, ◌||◌, List, length, pos, negsuc, ◌+ℤ◌, ◌-ℤ◌, ◌==◌, ◌≢◌, Some}
 use Rattle.layout.specs.Layout.{sectors_of, has_block, is_trailer}
 use Rattle.layout.specs.declared.Block.{Block}
 use Rattle.memory.specs.Memory.{content_of, store_of}
 use Rattle.tally.specs.Whole.{whole}
 use Rattle.tally.specs.Change.{count_fits, sum_fits, in_range, count_share, sum_share, settled_of}
-use Rattle.tally.specs.Full.{counts, count_of, sum_of, opened_of}
+use Rattle.tally.specs.Full.{counts, count_of, sum_of, full_figures, opened_of}
 use Rattle.tally.specs.declared.change.Figures.{Figures}
-use Rattle.tally.specs.declared.change.Settled.TheVariants.{Kept}
 
 -- the ends of the ranges: the count from 0 to 255, the sum from -547,608,330,240 to 547,608,329,985 (`negsuc n` is -n - 1)
 abbrev pub CountEnds : Type 0
@@ -24,7 +23,7 @@ SumEnds =
 -- figures that are kept are in range, and are the given ones less the old share, plus the new one
 abbrev pub KeptIs : Type 0
 KeptIs =
-    (f g : Figures) (old new : List ℕ) → settled_of f old new ≡ Kept g
+    (f g : Figures) (old new : List ℕ) → settled_of f old new ≡ Some g
     → (in_range g ≡ true)
     × (whole g.count ≡ (whole f.count -ℤ count_share old) +ℤ count_share new)
     × (whole g.sum ≡ (whole f.sum -ℤ sum_share old) +ℤ sum_share new)
@@ -33,7 +32,7 @@ KeptIs =
 abbrev pub SameContent : Type 0
 SameContent =
     (f : Figures) (block : List ℕ) → f.count < 18446744073709551616 → f.sum < 18446744073709551616 → in_range f ≡ true
-    → settled_of f block block ≡ Kept f
+    → settled_of f block block ≡ Some f
 
 -- a full count is in range
 abbrev pub FullFits : Type 0
@@ -41,15 +40,15 @@ FullFits = (image : List ℕ) → (count_fits (count_of image) ≡ true) × (sum
 
 -- the figures of an opening are in range
 abbrev pub OpeningFits : Type 0
-OpeningFits = (image : List ℕ) → in_range (opened_of image).figures ≡ true
+OpeningFits = (image : List ℕ) → in_range (full_figures image) ≡ true
 
 -- and, read as whole numbers, they are the full count of the card
 abbrev pub OpeningCounts : Type 0
 OpeningCounts =
     (image : List ℕ) → (sectors_of (length image) ≢ 0)
-    → ((opened_of image).number ≡ 0)
-    × (whole (opened_of image).figures.count ≡ count_of image)
-    × (whole (opened_of image).figures.sum ≡ sum_of image)
+    → (opened_of image ≡ Some (full_figures image))
+    × (whole (full_figures image).count ≡ count_of image)
+    × (whole (full_figures image).sum ≡ sum_of image)
 
 -- block 0 and the trailers never count, and every other block of the card does
 abbrev pub NotCounted : Type 0
@@ -75,10 +74,10 @@ StoreOther =
 abbrev pub ChangeCounts : Type 0
 ChangeCounts =
     (image : List ℕ) (b : Block) (bytes : List ℕ) → length bytes ≡ 16 → counts (length image) b ≡ true
-    → settled_of (opened_of image).figures (content_of image b) bytes ≡ Kept (opened_of (store_of image b bytes)).figures
+    → settled_of (full_figures image) (content_of image b) bytes ≡ Some (full_figures (store_of image b bytes))
 
 -- and with any other block the opening stays
 abbrev pub OpeningStays : Type 0
 OpeningStays =
     (image : List ℕ) (b : Block) (bytes : List ℕ) → length bytes ≡ 16 → counts (length image) b ≡ false
-    → opened_of (store_of image b bytes) ≡ opened_of image
+    → (opened_of (store_of image b bytes) ≡ opened_of image) × (full_figures (store_of image b bytes) ≡ full_figures image)

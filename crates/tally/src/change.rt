@@ -4,20 +4,11 @@ ghost use Rattle.value.specs.Whole.{signed};
 ghost use Rattle.tally.specs.Whole.{whole, held};
 ghost use Rattle.tally.specs.Change.{figures_of, count_fits, sum_fits, in_range, count_share, sum_share, added_to, taken_from, settled_of};
 
-use value::Decoded;
-
 // How many value blocks there are, and the sum of their values.
 #[derive(Clone, Copy)]
 pub struct Figures {
     pub count: u64,
     pub sum: u64,
-}
-
-// The new figures; or they leave their ranges.
-#[derive(Clone, Copy)]
-pub enum Settled {
-    Kept(Figures),
-    Outside,
 }
 
 fn count_fits(count: u64) -> bool
@@ -53,7 +44,7 @@ fn extended(value: u32) -> u64
 pub(crate) fn share_of(block: [u8; 16]) -> Figures
     ensures { result ≡ figures_of (count_share block) (sum_share block) }
 {
-    let Decoded::Value(value, _) = value::decode(block) else {
+    let Some((value, _)) = value::decode(block) else {
         return Figures { count: 0, sum: 0 };
     };
     let sum = extended(value);
@@ -79,8 +70,8 @@ fn taken(f: Figures, share: Figures) -> Figures
     Figures { count, sum }
 }
 
-// The figures after a block's content went from old to new. On the way between they may be anything.
-pub fn after(f: Figures, old: [u8; 16], new: [u8; 16]) -> Settled
+// The figures after a block's content went from old to new; none where they leave their ranges. On the way between they may be anything.
+pub fn after(f: Figures, old: [u8; 16], new: [u8; 16]) -> Option<Figures>
     ensures { result ≡ settled_of f old new }
 {
     let less = share_of(old);
@@ -88,7 +79,7 @@ pub fn after(f: Figures, old: [u8; 16], new: [u8; 16]) -> Settled
     let between = taken(f, less);
     let next = added(between, more);
     if in_range(next) {
-        return Settled::Kept(next);
+        return Some(next);
     }
-    Settled::Outside
+    None
 }

@@ -6,5 +6,5 @@ mod change;
 mod full;
 
 pub use bytes::{decode, encode};
-pub use change::{Figures, Settled, after, in_range};
-pub use full::{Opened, open};
+pub use change::{Figures, after, in_range};
+pub use full::open;

@@ -5,10 +5,10 @@ mod blocks;
 mod files;
 mod record;
 
-use files::{Kind, play};
+use files::play;
 use std::io;
 
 fn main(rt: HostRuntime) -> io::Result<()> {
-    play(&rt, "blocks.bin", Kind::Blocks)?;
-    play(&rt, "forms.bin", Kind::Forms)
+    play(&rt, "blocks.bin", 21, blocks::come_back)?;
+    play(&rt, "forms.bin", 22, blocks::agrees_in_form)
 }

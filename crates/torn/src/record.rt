@@ -3,10 +3,7 @@ ghost use Rattle.std.specs.Prelude.{◌<◌};
 
 // Byte j; 0 past the end.
 pub(crate) fn byte(record: &[u8], j: usize) -> u8 {
-    if j < record.len() {
-        return record[j];
-    }
-    0
+    record.get(j).copied().unwrap_or(0)
 }
 
 // The 32 bits of a value.
@@ -23,10 +20,7 @@ pub(crate) fn bits(record: &[u8], j: usize) -> u32
 
 // The bytes from a place on; none past the end.
 pub(crate) fn from(bytes: &[u8], at: usize) -> &[u8] {
-    if at <= bytes.len() {
-        return &bytes[at..];
-    }
-    &bytes[..0]
+    bytes.get(at..).unwrap_or(&[])
 }
 
 // The sixteen bytes from a place on; zeros where there are fewer.

@@ -1,5 +1,6 @@
 -- Value blocks there and back.
 -- Assumes nothing.
+use Rattle.std.proofs.Common.{None, Ok, Option, Some}
 use mathlib.Core.Path.{◌≡◌, refl, sym, ◌∙◌, ap, ap₂}
 use mathlib.Core.Bool.{Bool, true, false, ◌&&◌, cond}
 use mathlib.Core.List.{List, [], ◌∷◌}
@@ -13,9 +14,6 @@ use mir.Val.{to_z, sel}
 use mir.ValLaws.{of_z-to_z}
 use mir.Syntax.{w32}
 use borrow.Author.Tests.{eq-eqb, eqb-true}
-use Rattle.value.specs.declared.block.Decoded.{Decoded}
-use Rattle.value.specs.declared.block.Decoded.TheVariants.{Value, NoValue}
-use Rattle.value.specs.declared.sum.Total.TheVariants.{Fits}
 use Rattle.value.specs.Whole.{signed, bits}
 use Rattle.value.specs.Block.{encode_of, decode_of, agreeing, bits_in, address_in, same}
 use Rattle.value.specs.Sum.{total_of}
@@ -74,32 +72,35 @@ unfolding encode_of
 address_back z a = refl
 
 -- what is encoded decodes to itself
-pub decode_encode : (v a : ℕ) → v < 4294967296 → decode_of (encode_of (signed v) a) ≡ Value v a
+pub decode_encode : (v a : ℕ) → v < 4294967296 → decode_of (encode_of (signed v) a) ≡ Some (v, a)
 unfolding decode_of agreeing
 decode_encode v a h = rw (bits_back v a h, address_back (signed v) a, same_refl (encode_of (signed v) a))
 
 -- and so for every whole number that is a value
-pub decode_encode_whole : (z : ℤ) (r a : ℕ) → total_of z ≡ Fits r → (decode_of (encode_of z a) ≡ Value r a) × (signed r ≡ z)
+pub decode_encode_whole : (z : ℤ) (r a : ℕ) → total_of z ≡ Ok r → (decode_of (encode_of z a) ≡ Some (r, a)) × (signed r ≡ z)
 decode_encode_whole z r a e =
     let back = total_back z r e in
     (ap (λ (x : ℤ). decode_of (encode_of x a)) (sym back.0) ∙ decode_encode r a back.1, back.0)
 
-decoded : (block : List ℕ) (v a : ℕ) → decode_of block ≡ Value v a → (encode_of (signed v) a ≡ block) × (bits_in block ≡ v)
+-- a value and its address byte, each by itself
+pub value_and_address : {x y v a : ℕ} → ◌≡◌ {A = Option (ℕ × ℕ)} (Some (x, y)) (Some (v, a)) → (x ≡ v) × (y ≡ a)
+value_and_address {x} {y} {v} {a} e = let p : ◌≡◌ {A = ℕ × ℕ} (x, y) (v, a) = cc in (ap (λ (w : ℕ × ℕ). w.0) p, ap (λ (w : ℕ × ℕ). w.1) p)
+
+decoded : (block : List ℕ) (v a : ℕ) → decode_of block ≡ Some (v, a) → (encode_of (signed v) a ≡ block) × (bits_in block ≡ v)
 unfolding decode_of agreeing
 decoded block v a e = go (agreeing block) refl
   where
     go : (t : Bool) → agreeing block ≡ t → (encode_of (signed v) a ≡ block) × (bits_in block ≡ v)
     go true q =
-        let p : Value (bits_in block) (address_in block) ≡ Value v a = rw q at e in
-        let x : bits_in block ≡ v = cc in
-        let y : address_in block ≡ a = cc in
-        (sym (same_eq block (encode_of (signed (bits_in block)) (address_in block)) q ∙ rw (x, y)), x)
+        let p : ◌≡◌ {A = Option (ℕ × ℕ)} (Some (bits_in block, address_in block)) (Some (v, a)) = rw q at e in
+        let w = value_and_address p in
+        (sym (same_eq block (encode_of (signed (bits_in block)) (address_in block)) q ∙ rw (w.0, w.1)), w.0)
     go false q =
-        let p : NoValue ≡ Value v a = rw q at e in
+        let p : ◌≡◌ {A = Option (ℕ × ℕ)} None (Some (v, a)) = rw q at e in
         (cc, cc)
 
 -- what decodes is encoded again byte for byte
-pub encode_decode : (block : List ℕ) (v a : ℕ) → decode_of block ≡ Value v a → encode_of (signed v) a ≡ block
+pub encode_decode : (block : List ℕ) (v a : ℕ) → decode_of block ≡ Some (v, a) → encode_of (signed v) a ≡ block
 encode_decode block v a e = (decoded block v a e).0
 
 bits_small : (z : ℤ) (a : ℕ) → bits_in (encode_of z a) < 4294967296
@@ -107,23 +108,23 @@ unfolding encode_of
 bits_small z a = omega arith
 
 -- the value of a block that decodes has 32 bits
-pub decode_small : (block : List ℕ) (v a : ℕ) → decode_of block ≡ Value v a → v < 4294967296
+pub decode_small : (block : List ℕ) (v a : ℕ) → decode_of block ≡ Some (v, a) → v < 4294967296
 decode_small block v a e = let d = decoded block v a e in rw (ap bits_in d.0 ∙ d.1) at (bits_small (signed v) a)
 
 -- what an answer of `decode` says, in the words of the code that asked
-module _ (block : List ℕ) (r : Decoded) (asked : r ≡ decode_of block) where
-  pub read_none : r ≡ NoValue → agreeing block ≡ false
+module _ (block : List ℕ) (r : Option (ℕ × ℕ)) (asked : r ≡ decode_of block) where
+  pub read_none : r ≡ None → agreeing block ≡ false
   unfolding decode_of
   read_none e = go (agreeing block) refl
     where
       go : (t : Bool) → agreeing block ≡ t → agreeing block ≡ false
       go false q = q
-      go true q = let p : NoValue ≡ Value (bits_in block) (address_in block) = sym e ∙ rw q at asked in cc
+      go true q = let p : ◌≡◌ {A = Option (ℕ × ℕ)} None (Some (bits_in block, address_in block)) = sym e ∙ rw q at asked in cc
 
-  pub read_value : (v a : ℕ) → r ≡ Value v a → (agreeing block ≡ true) × (v ≡ bits_in block) × (a ≡ address_in block)
+  pub read_value : (v a : ℕ) → r ≡ Some (v, a) → (agreeing block ≡ true) × (v ≡ bits_in block) × (a ≡ address_in block)
   unfolding decode_of
   read_value v a e = go (agreeing block) refl
     where
       go : (t : Bool) → agreeing block ≡ t → (agreeing block ≡ true) × (v ≡ bits_in block) × (a ≡ address_in block)
-      go true q = let p : Value v a ≡ Value (bits_in block) (address_in block) = sym e ∙ rw q at asked in (q, cc, cc)
-      go false q = let p : Value v a ≡ NoValue = sym e ∙ rw q at asked in (cc, cc, cc)
+      go true q = let p : ◌≡◌ {A = Option (ℕ × ℕ)} (Some (v, a)) (Some (bits_in block, address_in block)) = sym e ∙ rw q at asked in let w = value_and_address p in (q, w.0, w.1)
+      go false q = let p : ◌≡◌ {A = Option (ℕ × ℕ)} (Some (v, a)) None = sym e ∙ rw q at asked in (cc, cc, cc)

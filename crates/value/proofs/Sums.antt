@@ -1,5 +1,6 @@
 -- Sums of whole numbers, by their bits moved up by 2^31.
 -- Assumes nothing.
+use Rattle.std.proofs.Common.{Err, Ok}
 use mathlib.Core.Path.{◌≡◌, refl, sym, ◌∙◌, ap}
 use mathlib.Core.Bool.{Bool, true, false, ◌&&◌}
 use Prim.Native.Nat.{ℕ, suc, ◌+◌, ◌-◌, ◌%◌, ◌<◌, ◌≤◌}
@@ -7,7 +8,7 @@ use native.Mathlib.Omega.{arith}
 use lib.IntN.{ℤ, pos, negsuc, sub_ℕ}
 use lib.Dec.{ltb, leb}
 use borrow.Author.Tests.{lt-ltb, le-ltb, le-leb, lt-leb, ltb-true, ltb-false, leb-true}
-use Rattle.value.specs.declared.sum.Total.TheVariants.{Fits, Negative, Outside}
+use Rattle.value.specs.declared.sum.SumError.TheVariants.{Negative, Outside}
 use Rattle.value.specs.Whole.{signed}
 use Rattle.value.specs.Sum.{total_of, is_negative, ruled_of, plus_of, minus_of}
 use Rattle.value.proofs.Ints.{sub_plus, sub_minus}
@@ -32,27 +33,27 @@ signed_is v h = go (ltb v 2147483648) refl
 
 -- a difference held in 32 bits, or refused, by its two numbers
 module _ (n m : ℕ) where
-  pub total_low : n + 2147483648 < m → total_of (sub_ℕ n m) ≡ Outside
+  pub total_low : n + 2147483648 < m → total_of (sub_ℕ n m) ≡ Err Outside
   unfolding total_of
   total_low h = simp (lt-ltb n m (omega arith), lt-leb (m - suc n) 2147483647 (omega arith))
 
-  pub total_high : m + 2147483648 ≤ n → total_of (sub_ℕ n m) ≡ Outside
+  pub total_high : m + 2147483648 ≤ n → total_of (sub_ℕ n m) ≡ Err Outside
   unfolding total_of
   total_high h = simp (le-ltb n m (omega arith), lt-leb (n - m) 2147483647 (omega arith))
 
-  pub total_in : m ≤ n + 2147483648 → n < m + 2147483648 → total_of (sub_ℕ n m) ≡ Fits (lift ((n + 2147483648) - m))
+  pub total_in : m ≤ n + 2147483648 → n < m + 2147483648 → total_of (sub_ℕ n m) ≡ Ok (lift ((n + 2147483648) - m))
   unfolding total_of
   total_in l h = go (ltb n m) refl
     where
-      go : (t : Bool) → ltb n m ≡ t → total_of (sub_ℕ n m) ≡ Fits (lift ((n + 2147483648) - m))
+      go : (t : Bool) → ltb n m ≡ t → total_of (sub_ℕ n m) ≡ Ok (lift ((n + 2147483648) - m))
       go true e =
           let k : n < m = ltb-true n m e in
           let a : 4294967296 - suc (m - suc n) ≡ lift ((n + 2147483648) - m) = omega arith in
-          simp (e, le-leb (m - suc n) 2147483647 (omega arith)) (ap Fits a)
+          simp (e, le-leb (m - suc n) 2147483647 (omega arith)) (ap Ok a)
       go false e =
           let k : m ≤ n = ltb-false n m e in
           let a : n - m ≡ lift ((n + 2147483648) - m) = omega arith in
-          simp (e, le-leb (n - m) 2147483647 (omega arith)) (ap Fits a)
+          simp (e, le-leb (n - m) 2147483647 (omega arith)) (ap Ok a)
 
 -- 32 bits from 2^31 on stand for a number below zero, and no others do
 pub negative_is : (x : ℕ) → x < 4294967296 → leb 2147483648 x ≡ is_negative (signed x)
@@ -65,7 +66,7 @@ negative_is x h = go (ltb x 2147483648) refl
 
 -- the ways out of the code, in the words of its tests
 module _ (v x : ℕ) (fv : v < 4294967296) (fx : x < 4294967296) where
-  pub below_zero_lem : (result : ℤ) → is_negative (signed x) ≡ true → Negative ≡ ruled_of (signed x) result
+  pub below_zero_lem : (result : ℤ) → is_negative (signed x) ≡ true → Err Negative ≡ ruled_of (signed x) result
   unfolding ruled_of
   below_zero_lem result e = rw e
 
@@ -85,60 +86,60 @@ module _ (v x : ℕ) (fv : v < 4294967296) (fx : x < 4294967296) where
     unfolding ruled_of
     minus_is = rw e (ap total_of (rw (signed_is v fv, signed_is x fx) (sub_minus (lift v) 2147483648 (lift x) 2147483648)))
 
-    pub plus_high : 4294967296 ≤ lift v + x → Outside ≡ plus_of v x
+    pub plus_high : 4294967296 ≤ lift v + x → Err Outside ≡ plus_of v x
     plus_high h = sym (plus_is ∙ total_high (lift v + lift x) 4294967296 (omega (arith, small)))
 
-    pub plus_in : (r : ℕ) → lift v + x < 4294967296 → r ≡ lift (lift v + x) → Fits r ≡ plus_of v x
+    pub plus_in : (r : ℕ) → lift v + x < 4294967296 → r ≡ lift (lift v + x) → Ok r ≡ plus_of v x
     plus_in r h q =
         let k : r ≡ lift ((lift v + lift x + 2147483648) - 4294967296) = omega (arith, small) in
-        ap Fits k ∙ sym (plus_is ∙ total_in (lift v + lift x) 4294967296 (omega (arith, small)) (omega (arith, small)))
+        ap Ok k ∙ sym (plus_is ∙ total_in (lift v + lift x) 4294967296 (omega (arith, small)) (omega (arith, small)))
 
-    pub minus_low : lift v < x → Outside ≡ minus_of v x
+    pub minus_low : lift v < x → Err Outside ≡ minus_of v x
     minus_low h = sym (minus_is ∙ total_low (lift v + 2147483648) (2147483648 + lift x) (omega (arith, small)))
 
-    pub minus_in : (r : ℕ) → x ≤ lift v → r ≡ lift (lift v - x) → Fits r ≡ minus_of v x
+    pub minus_in : (r : ℕ) → x ≤ lift v → r ≡ lift (lift v - x) → Ok r ≡ minus_of v x
     minus_in r l q =
         let k : r ≡ lift ((lift v + 2147483648 + 2147483648) - (2147483648 + lift x)) = omega (arith, small) in
-        ap Fits k ∙ sym (minus_is ∙ total_in (lift v + 2147483648) (2147483648 + lift x) (omega (arith, small)) (omega (arith, small)))
+        ap Ok k ∙ sym (minus_is ∙ total_in (lift v + 2147483648) (2147483648 + lift x) (omega (arith, small)) (omega (arith, small)))
 
 and_true : (b : Bool) → (b && true) ≡ b
 and_true true = refl
 and_true false = refl
 
 -- what is held is the number itself
-pub total_back : (z : ℤ) (r : ℕ) → total_of z ≡ Fits r → (signed r ≡ z) × (r < 4294967296)
+pub total_back : (z : ℤ) (r : ℕ) → total_of z ≡ Ok r → (signed r ≡ z) × (r < 4294967296)
 unfolding total_of
 total_back (pos n) r e = go (leb n 2147483647) refl
   where
     go : (t : Bool) → leb n 2147483647 ≡ t → (signed r ≡ pos n) × (r < 4294967296)
     go true q =
-        let p : Fits n ≡ Fits r = rw q at e in
+        let p : Ok n ≡ Ok r = rw q at e in
         let h : n ≤ 2147483647 = leb-true n 2147483647 q in
         let i : n ≡ r = cc in
         (ap signed (sym i) ∙ simp (lt-ltb n 2147483648 (omega arith)), omega arith)
-    go false q = let p : Outside ≡ Fits r = rw q at e in let z : ◌≡◌ {A = ℕ} 0 1 = cc in absurd (omega arith)
+    go false q = let p : Err Outside ≡ Ok r = rw q at e in let z : ◌≡◌ {A = ℕ} 0 1 = cc in absurd (omega arith)
 total_back (negsuc n) r e = go (leb n 2147483647) refl
   where
     go : (t : Bool) → leb n 2147483647 ≡ t → (signed r ≡ negsuc n) × (r < 4294967296)
     go true q =
-        let p : Fits (4294967296 - suc n) ≡ Fits r = rw q at (simp and_true at e) in
+        let p : Ok (4294967296 - suc n) ≡ Ok r = rw q at (simp and_true at e) in
         let h : n ≤ 2147483647 = leb-true n 2147483647 q in
         let i : 4294967296 - suc n ≡ r = cc in
         let j : 4294967296 - suc (4294967296 - suc n) ≡ n = omega arith in
         (ap signed (sym i) ∙ simp (le-ltb (4294967296 - suc n) 2147483648 (omega arith)) (ap negsuc j), omega arith)
-    go false q = let p : Outside ≡ Fits r = rw q at (simp and_true at e) in let z : ◌≡◌ {A = ℕ} 0 1 = cc in absurd (omega arith)
+    go false q = let p : Err Outside ≡ Ok r = rw q at (simp and_true at e) in let z : ◌≡◌ {A = ℕ} 0 1 = cc in absurd (omega arith)
 
 -- a number of 32 bits is held as it is
-pub total_same : (v : ℕ) → v < 4294967296 → total_of (signed v) ≡ Fits v
+pub total_same : (v : ℕ) → v < 4294967296 → total_of (signed v) ≡ Ok v
 total_same v h =
     let e : lift ((lift v + 2147483648) - 2147483648) ≡ v = omega arith in
-    ap total_of (signed_is v h) ∙ total_in (lift v) 2147483648 (omega arith) (omega arith) ∙ ap Fits e
+    ap total_of (signed_is v h) ∙ total_in (lift v) 2147483648 (omega arith) (omega arith) ∙ ap Ok e
 
 -- a result that is held is the number itself, and its operand is not below zero
-pub ruled_back : (operand result : ℤ) (r : ℕ) → ruled_of operand result ≡ Fits r → (is_negative operand ≡ false) × (signed r ≡ result) × (r < 4294967296)
+pub ruled_back : (operand result : ℤ) (r : ℕ) → ruled_of operand result ≡ Ok r → (is_negative operand ≡ false) × (signed r ≡ result) × (r < 4294967296)
 unfolding ruled_of
 ruled_back operand result r e = go (is_negative operand) refl
   where
     go : (t : Bool) → is_negative operand ≡ t → (is_negative operand ≡ false) × (signed r ≡ result) × (r < 4294967296)
-    go true q = let p : Negative ≡ Fits r = rw q at e in let z : ◌≡◌ {A = ℕ} 0 1 = cc in absurd (omega arith)
+    go true q = let p : Err Negative ≡ Ok r = rw q at e in let z : ◌≡◌ {A = ℕ} 0 1 = cc in absurd (omega arith)
     go false q = let b = total_back result r (rw q at e) in (q, b.0, b.1)

@@ -1,8 +1,6 @@
 -- Value blocks: a value and an address byte in sixteen bytes.
-use Rattle.std.specs.Prelude.{Bool, true, false, ◌&&◌, cond, List, [], ◌∷◌, ◌++◌, map, ℕ, ◌+◌, ◌*◌, ◌-◌, ◌/◌, ◌%◌, eqb, ℤ, get_or}
+use Rattle.std.specs.Prelude.{Bool, true, false, ◌&&◌, cond, List, [], ◌∷◌, ◌++◌, map, ℕ, ◌+◌, ◌*◌, ◌-◌, ◌/◌, ◌%◌, eqb, ℤ, get_or, None, Option, Some}
 use Rattle.value.specs.Whole.{signed, bits}
-use Rattle.value.specs.declared.block.Decoded.{Decoded}
-use Rattle.value.specs.declared.block.Decoded.TheVariants.{Value, NoValue}
 
 -- four bytes as one number, low byte first
 abbrev pub word_of : ℕ → ℕ → ℕ → ℕ → ℕ
@@ -45,5 +43,5 @@ unfoldable pub agreeing : List ℕ → Bool
 agreeing block = same block (encode_of (signed (bits_in block)) (address_in block))
 
 -- what a block holds: a value, as its bits, and an address byte; or it is no value block
-unfoldable pub decode_of : List ℕ → Decoded
-decode_of block = cond (agreeing block) (Value (bits_in block) (address_in block)) NoValue
+unfoldable pub decode_of : List ℕ → Option (ℕ × ℕ)
+decode_of block = cond (agreeing block) (Some (bits_in block, address_in block)) None

@@ -5,13 +5,6 @@ ghost use Rattle.value.specs.Block.{encode_of, decode_of, agreeing};
 
 use crate::bytes;
 
-// What sixteen bytes hold: a value, as its bits, with an address byte; or they are no value block.
-#[derive(Clone, Copy)]
-pub enum Decoded {
-    Value(u32, u8),
-    NoValue,
-}
-
 // The value block of a value, given as its bits, and an address byte.
 pub fn encode(value: u32, address: u8) -> [u8; 16]
     ensures { result ≡ encode_of (signed value) address }
@@ -56,15 +49,13 @@ fn agrees(block: [u8; 16]) -> bool
     (inverted == 4294967295 - plain) & (again == plain) & address
 }
 
-// The value and the address byte of sixteen bytes, where they are a value block.
-pub fn decode(block: [u8; 16]) -> Decoded
+// The value, as its bits, and the address byte of sixteen bytes; none where they are no value block.
+pub fn decode(block: [u8; 16]) -> Option<(u32, u8)>
     ensures { result ≡ decode_of block }
 {
     if agrees(block) {
-        return Decoded::Value(
-            bytes::word(block[0], block[1], block[2], block[3]),
-            block[12],
-        );
+        let value = bytes::word(block[0], block[1], block[2], block[3]);
+        return Some((value, block[12]));
     }
-    Decoded::NoValue
+    None
 }

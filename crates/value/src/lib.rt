@@ -5,6 +5,6 @@ mod block;
 mod bytes;
 mod sum;
 
-pub use block::{Decoded, decode, encode};
+pub use block::{decode, encode};
 pub use bytes::{four, word};
-pub use sum::{Total, minus, plus};
+pub use sum::{SumError, minus, plus};

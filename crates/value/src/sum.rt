@@ -3,10 +3,9 @@ ghost use Rattle.std.specs.Prelude.{◌≡◌, ◌+◌, ◌%◌, ◌<◌};
 ghost use Rattle.value.specs.Whole.{signed};
 ghost use Rattle.value.specs.Sum.{is_negative, plus_of, minus_of};
 
-// A result as its bits; or its operand is below zero; or it is outside the range of a value.
-#[derive(Clone, Copy)]
-pub enum Total {
-    Fits(u32),
+// Why a sum is refused: its operand is below zero, or its result is outside the range of a value.
+#[derive(Clone, Copy, PartialEq, Eq)]
+pub enum SumError {
     Negative,
     Outside,
 }
@@ -32,29 +31,30 @@ fn is_negative(operand: u32) -> bool
     2147483648 <= operand
 }
 
-pub fn plus(value: u32, operand: u32) -> Total
+// The result as its bits.
+pub fn plus(value: u32, operand: u32) -> Result<u32, SumError>
     ensures { result ≡ plus_of value operand }
 {
     if is_negative(operand) {
-        return Total::Negative;
+        return Err(SumError::Negative);
     }
     let sum = lifted(value) + operand as u64;
     if 4294967296 <= sum {
-        return Total::Outside;
+        return Err(SumError::Outside);
     }
-    Total::Fits(lowered(sum))
+    Ok(lowered(sum))
 }
 
-pub fn minus(value: u32, operand: u32) -> Total
+pub fn minus(value: u32, operand: u32) -> Result<u32, SumError>
     ensures { result ≡ minus_of value operand }
 {
     if is_negative(operand) {
-        return Total::Negative;
+        return Err(SumError::Negative);
     }
     let from = lifted(value);
     let less = operand as u64;
     if from < less {
-        return Total::Outside;
+        return Err(SumError::Outside);
     }
-    Total::Fits(lowered(from - less))
+    Ok(lowered(from - less))
 }

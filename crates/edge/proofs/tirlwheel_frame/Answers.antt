@@ -1,20 +1,30 @@
 -- What `give` hands over is the answer to the session that `decode` found, or to none.
 use mathlib.Core.Path.{◌≡◌, sym, ◌∙◌}
+use Rattle.crossing.proofs.Laws.{no_value}
 use Rattle.edge.specs.Edge.{frame_answer, frame_image}
 use Rattle.edge.proofs.Laws.{with_session, without_session}
 use Rattle.edge.proofs.tirlwheel_frame.Goals as goal
-use Rattle.edge.proofs.tirlwheel_frame.Goals.{in-Session, in-Nothing}
+use Rattle.edge.proofs.tirlwheel_frame.Goals.{in-Some, in-None}
 
-pub returns : goal.returns
-returns c = let args = c.args in
+told : (c : goal.After-give) → (c.match-decode.a ≡ frame_answer c.args.image.now c.args.session.now c.args.frame.now) × (c.match-decode.image ≡ frame_image c.args.image.now c.args.session.now c.args.frame.now)
+told c = let args = c.args in
     let image = args.image.now in
     let bytes = args.session.now in
     let frame = args.frame.now in
     let d = c.decode.ensures in
-    let met = c.match-decode in
-    let told : (met.a ≡ frame_answer image bytes frame) × (met.image ≡ frame_image image bytes frame) =
-    elim met.branch [
-      | in-Session w ↦ let law = with_session image bytes frame _ (sym d ∙ w.in-Session.is) in (w.a-is ∙ w.step-a.ensures.value ∙ law.0, w.image-is ∙ w.step-a.ensures.image_after ∙ law.1)
-      | in-Nothing w ↦ let law = without_session image bytes frame (sym d ∙ w.in-Nothing.is) in (w.a-is ∙ w.no_session-a.ensures ∙ law.0, w.image-is ∙ law.1)
-    ] in
-    record { value = c.give.ensures.value ∙ rw told.0; session_after = c.give.ensures.session_after ∙ rw told.0; reply_after = c.give.ensures.reply_after ∙ rw told.0; image_after = told.1 }
+    elim c.match-decode.branch [
+      | in-Some w ↦ let law = with_session image bytes frame _ (sym d ∙ w.in-Some.is) in (w.a-is ∙ w.step-a.ensures.value ∙ law.0, w.image-is ∙ w.step-a.ensures.image_after ∙ law.1)
+      | in-None w ↦ let law = without_session image bytes frame (sym d ∙ w.in-None.is) in (w.a-is ∙ w.no_session-a.ensures ∙ law.0, w.image-is ∙ law.1)
+    ]
+
+pub returns-clause-value : goal.returns-clause-value
+returns-clause-value c = c.give.ensures.value ∙ no_value _ _ ∙ rw (told c).0
+
+pub returns-clause-session_after : goal.returns-clause-session_after
+returns-clause-session_after c = c.give.ensures.session_after ∙ rw (told c).0
+
+pub returns-clause-reply_after : goal.returns-clause-reply_after
+returns-clause-reply_after c = c.give.ensures.reply_after ∙ rw (told c).0
+
+pub returns-clause-image_after : goal.returns-clause-image_after
+returns-clause-image_after c = (told c).1

@@ -4,4 +4,4 @@ use Rattle.either_card.proofs.given.Goals as goal
 
 pub returns : goal.returns
 unfolding given_of
-returns c = rw c.nak_of-value.ensures
+returns c = rw c.nak_of-nak.ensures

@@ -7,11 +7,11 @@ use Rattle.record.proofs.Laws.{session_found, session_missing}
 use Rattle.kept.proofs.Stray.{no_session_kept}
 use Rattle.keptedge.proofs.answer.Goals as goal
 
-pub returns-in-Session : goal.returns-in-Session
-returns-in-Session c = let e = session_found _ _ (sym c.decode.ensures ∙ c.in-Session.is) in rw e c.step.ensures
+pub returns-in-Some : goal.returns-in-Some
+returns-in-Some c = let e = session_found _ _ (sym c.decode.ensures ∙ c.in-Some.is) in rw e c.step.ensures
 
-pub returns-in-Nothing : goal.returns-in-Nothing
+pub returns-in-None : goal.returns-in-None
 unfolding incoherent coherent_of
-returns-in-Nothing c = let args = c.args in
+returns-in-None c = let args = c.args in
     let law = no_session_kept args.image.now args.k args.f stray_of refl args.frame.now in
-    rw (session_missing _ (sym c.decode.ensures ∙ c.in-Nothing.is)) (record { value = c.no_session.ensures ∙ sym law.0; image_after = sym law.1 })
+    rw (session_missing _ (sym c.decode.ensures ∙ c.in-None.is)) (record { value = c.no_session.ensures ∙ sym law.0; image_after = sym law.1 })

@@ -4,4 +4,4 @@ use Rattle.sealed.proofs.sealed.Goals as goal
 
 pub returns : goal.returns
 unfolding sealed_of
-returns c = rw c.reply_of-reply.ensures
+returns c = rw c.reply_of.ensures

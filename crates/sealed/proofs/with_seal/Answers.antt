@@ -1,22 +1,12 @@
--- The loop's invariant: the first i bytes are copied. The measure is what is left of sixteen.
-use mathlib.Core.Path.{◌≡◌, refl, ◌∙◌}
-use lib.ListN.{length-set}
-use lib.Seq.{take_all}
-use Rattle.memory.proofs.Copy.{copy_step}
-use Rattle.sealed.proofs.Ways.{put_two}
-use borrow.Author.Rules.{rules}
+-- The reply stands in the first sixteen of eighteen bytes, and its checksum in the last two.
+use mathlib.Core.Path.{refl, ◌∙◌}
+use mathlib.Core.List.{[], ◌∷◌}
+use Rattle.std.proofs.Common.{rules}
+use Rattle.sealed.proofs.Ways.{put_last}
 use Rattle.sealed.proofs.with_seal.Goals as goal
 
-pub loop-i-init : goal.loop-i-init
-loop-i-init c = (search rules, refl, search rules, refl)
-
-pub loop-i-preserved : goal.loop-i-preserved
-loop-i-preserved c = let v = c.loop-i.invariant in
-    (v.0, simp length-set v.1, search rules, copy_step _ _ c.loop-i.i v.3 (search rules) (search rules))
-
 pub returns : goal.returns
-returns c = let at = c.loop-i in
-    let v = at.invariant in
-    let n : at.i ≡ 16 = search rules in
-    let reply = c.args.reply in
-    put_two at.bytes reply _ v.1 (rw n at v.3 ∙ take_all 16 reply (search rules)) (c.two-seal.ensures ∙ rw c.crc_a.ensures)
+returns c =
+    let reply = c.copy_from_slice in
+    let seal = c.copy_from_slice-2 in
+    put_last 16 2 reply.new.self (0 ∷ 0 ∷ []) seal.new.self (search rules) refl ∙ rw (reply.ensures.after, seal.ensures.after, c.two-seal.ensures, c.crc_a.ensures)

@@ -3,10 +3,10 @@ use mathlib.Core.Path.{◌∙◌}
 use Rattle.judge.specs.Checks.{writable_by}
 use Rattle.card.proofs.trailer.writable_by.Goals as goal
 
-pub returns-in-Nobody : goal.returns-in-Nobody
+pub returns-in-None : goal.returns-in-None
 unfolding writable_by
-returns-in-Nobody c = rw c.in-Nobody.is
+returns-in-None c = rw c.in-None.is
 
-pub returns-in-As : goal.returns-in-As
+pub returns-in-Some : goal.returns-in-Some
 unfolding writable_by
-returns-in-As c = c.writable.ensures ∙ rw c.in-As.is
+returns-in-Some c = c.writable.ensures ∙ rw c.in-Some.is

@@ -1,20 +1,17 @@
--- The loop's invariant: what is left, fed to the register that the word stands for, gives the checksum. The measure is the number of bytes left.
-use mathlib.Core.Path.{refl, ◌∙◌, ap}
-use Prim.Native.Nat.{ℕ}
-use lib.ListN.{drop}
+-- The first word stands for C7h; and eight bytes more.
+use mathlib.Core.Path.{refl, ◌∙◌, ap, ap₂}
 use Rattle.directory.specs.Checksum.{shifted, shifts, byte_on, bytes_on, checksum_of}
-use Rattle.directory.specs.Code.{feed}
-use borrow.Author.Rules.{rules}
+use Rattle.directory.specs.Code.{feed, standing}
+use Rattle.directory.proofs.Blocks.{two_halves}
 use Rattle.directory.proofs.parts.checksum.Goals as goal
 
-pub loop-i-init : goal.loop-i-init
+pub loop-eight-init : goal.loop-eight-init
 unfolding checksum_of feed byte_on shifts shifted
-loop-i-init c = (search rules, refl)
+loop-eight-init c = refl
 
-pub loop-i-preserved : goal.loop-i-preserved
-loop-i-preserved c = (search rules, c.eight_more-s.ensures ∙ c.loop-i.invariant.1)
-
-pub returns : goal.returns
-returns c = let at = c.loop-i in
-    let bytes = c.args.bytes.now in
-    c.bytewise.ensures ∙ ap (λ (x : ℕ). bytes_on x (drop at.i bytes)) c.register.ensures ∙ at.invariant.1
+pub loop-eight-preserved : goal.loop-eight-preserved
+loop-eight-preserved c = let l = c.loop-eight in
+    let given = c.in-Some.ensures in
+    ap₂ bytes_on (c.eight_more-s.ensures ∙ ap (bytes_on (standing l.s)) given.cases.0) given.cases.1
+    ∙ two_halves (standing l.s) l.left.now
+    ∙ l.invariant

@@ -10,4 +10,4 @@ returns-then-lock-eq0 c = rw (eq-eqb _ _ c.if-lock-eq0.true)
 
 pub returns : goal.returns
 unfolding choice_by
-returns c = c.chosen_by.ensures ∙ rw (ne_eqb _ _ c.if-lock-eq0.false, c.usage_of.ensures)
+returns c = rw (ne_eqb _ _ c.if-lock-eq0.false, c.usage_of.ensures)

@@ -1,13 +1,13 @@
 -- What the Read is refused with, or the choice.
 use mathlib.Core.Path.{◌∙◌}
-use borrow.Author.Tests.{eq-eqb, ne_eqb}
+use Rattle.judge.proofs.Numbers.{number_not_0}
 use Rattle.either_card.specs.Personal.{choosing}
 use Rattle.either_card.proofs.personal.choosing.Goals as goal
 
-pub returns-then-n-eq0 : goal.returns-then-n-eq0
+pub returns-in-Ok : goal.returns-in-Ok
 unfolding choosing
-returns-then-n-eq0 c = c.chosen.ensures ∙ rw (eq-eqb _ _ c.if-n-eq0.true)
+returns-in-Ok c = c.chosen.ensures ∙ rw c.in-Ok.is
 
-pub returns-else-n-eq0 : goal.returns-else-n-eq0
+pub returns-in-Err : goal.returns-in-Err
 unfolding choosing
-returns-else-n-eq0 c = rw (ne_eqb _ _ c.if-n-eq0.false)
+returns-in-Err c = c.refused.ensures ∙ rw (c.in-Err.is, number_not_0 _)

@@ -14,18 +14,18 @@ returns-in_default-bits_of c = rw (closed _ _ _ c.bits_of-2.ensures c.in_default
 
 pub returns-then-is_mute : goal.returns-then-is_mute
 unfolding sector_refusal is_blocked right_of
-returns-then-is_mute c = let n = opened _ _ _ c.bits_of.ensures _ c.in-Are.is in
-    let m = opened _ _ _ c.bits_of-2.ensures _ c.in-Are-bits_of.is in
+returns-then-is_mute c = let n = opened _ _ _ c.bits_of.ensures _ c.in-Some.is in
+    let m = opened _ _ _ c.bits_of-2.ensures _ c.in-Some-bits_of.is in
     rw (n.0, ← m.1, ← c.is_mute.ensures, c.if-is_mute.true)
 
 pub returns-then-may : goal.returns-then-may
 unfolding sector_refusal is_blocked right_of
-returns-then-may c = let n = opened _ _ _ c.bits_of.ensures _ c.in-Are.is in
-    let m = opened _ _ _ c.bits_of-2.ensures _ c.in-Are-bits_of.is in
+returns-then-may c = let n = opened _ _ _ c.bits_of.ensures _ c.in-Some.is in
+    let m = opened _ _ _ c.bits_of-2.ensures _ c.in-Some-bits_of.is in
     rw (n.0, ← n.1, ← m.1, ← c.is_mute.ensures, c.if-is_mute.false, ← c.may.ensures, c.if-may.true)
 
 pub returns : goal.returns
 unfolding sector_refusal is_blocked right_of
-returns c = let n = opened _ _ _ c.bits_of.ensures _ c.in-Are.is in
-    let m = opened _ _ _ c.bits_of-2.ensures _ c.in-Are-bits_of.is in
+returns c = let n = opened _ _ _ c.bits_of.ensures _ c.in-Some.is in
+    let m = opened _ _ _ c.bits_of-2.ensures _ c.in-Some-bits_of.is in
     rw (n.0, ← n.1, ← m.1, ← c.is_mute.ensures, c.if-is_mute.false, ← c.may.ensures, c.if-may.false)

@@ -4,4 +4,4 @@ use Rattle.either_card.proofs.sealing.sealed_card.Goals as goal
 
 pub returns : goal.returns
 unfolding sealed_card_of
-returns c = rw c.sealed-answer.ensures
+returns c = rw c.sealed.ensures

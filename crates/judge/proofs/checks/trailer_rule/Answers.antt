@@ -2,21 +2,22 @@
 use mathlib.Core.Path.{◌≡◌, refl, ◌∙◌}
 use mathlib.Core.Bool.{Bool, true, false, not, ◌&&◌, ◌||◌, cond}
 use Prim.Native.Nat.{ℕ}
+use Rattle.std.proofs.Common.{Ok, Err}
 use Rattle.access.specs.Rights.{mute_of, writable_of}
 use Rattle.access.specs.declared.rights.Operation.TheVariants.{Write}
 use Rattle.judge.specs.First.{first, passes, refuses}
 use Rattle.judge.specs.Checks.{is_forbidden, trailer_right, right_of}
 use Rattle.judge.specs.Code.{trailer_grant, granted}
-use Rattle.judge.specs.declared.checks.Verdict.{Verdict}
-use Rattle.judge.specs.declared.checks.Verdict.TheVariants.{Refuse, InParts}
+use Rattle.judge.specs.declared.checks.Grant.{Grant}
+use Rattle.judge.specs.declared.checks.Grant.TheVariants.{InParts}
 use Rattle.judge.proofs.checks.trailer_rule.Goals as goal
 
-barred : (t : Bool) (m : ℕ) → cond t (Refuse 7) (InParts m) ≡ granted (cond (not (not t && true)) (refuses 7) passes) (InParts m)
+barred : (t : Bool) (m : ℕ) → cond t (Err 7) (Ok (InParts m)) ≡ granted (cond (not (not t && true)) (refuses 7) passes) (InParts m)
 unfolding granted
 barred true m = refl
 barred false m = refl
 
-write_way : (t r : Bool) (v : Verdict) → granted (cond (t || not r) (refuses 7) passes) v ≡ granted (cond (not (not t && r)) (refuses 7) passes) v
+write_way : (t r : Bool) (v : Grant) → granted (cond (t || not r) (refuses 7) passes) v ≡ granted (cond (not (not t && r)) (refuses 7) passes) v
 write_way true r v = refl
 write_way false true v = refl
 write_way false false v = refl

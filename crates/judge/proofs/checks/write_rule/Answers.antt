@@ -2,13 +2,14 @@
 use mathlib.Core.Path.{◌≡◌, refl}
 use mathlib.Core.Bool.{Bool, true, false, not, ◌&&◌, ◌||◌, cond, false≢true}
 use Prim.Native.Nat.{ℕ}
+use Rattle.std.proofs.Common.{Ok}
 use Rattle.judge.specs.First.{first, passes, refuses}
 use Rattle.judge.specs.Checks.{trailer_right}
 use Rattle.judge.specs.Code.{trailer_grant, granted}
-use Rattle.judge.specs.declared.checks.Verdict.TheVariants.{Whole, InParts}
+use Rattle.judge.specs.declared.checks.Grant.TheVariants.{Whole, InParts}
 use Rattle.judge.proofs.checks.write_rule.Goals as goal
 
-wholly : (a x b : Bool) (m : ℕ) → (a && x && b) ≡ true → Whole ≡ granted (cond (not (a || x || b)) (refuses 7) passes) (cond (a && x && b) Whole (InParts m))
+wholly : (a x b : Bool) (m : ℕ) → (a && x && b) ≡ true → Ok Whole ≡ granted (cond (not (a || x || b)) (refuses 7) passes) (cond (a && x && b) Whole (InParts m))
 unfolding granted
 wholly true true true m h = refl
 wholly true true false m h = absurd (false≢true h)

@@ -1,12 +1,13 @@
 -- `transfer` goes by the register.
+use mathlib.Core.Path.{◌∙◌}
 use Rattle.judge.specs.First.{first, ruled}
 use Rattle.judge.specs.Judge.{move_of}
 use Rattle.judge.proofs.deeds.transfer.Goals as goal
 
-pub returns-in-Empty : goal.returns-in-Empty
+pub returns-in-None : goal.returns-in-None
 unfolding first ruled move_of
-returns-in-Empty c = rw c.in-Empty.is
+returns-in-None c = c.refused.ensures ∙ rw c.in-None.is
 
-pub returns-in-Full : goal.returns-in-Full
+pub returns-in-Some : goal.returns-in-Some
 unfolding first ruled move_of
-returns-in-Full c = rw c.in-Full.is
+returns-in-Some c = rw c.in-Some.is

@@ -6,11 +6,11 @@ use Rattle.judge.specs.Checks.{no_value}
 use Rattle.judge.specs.Judge.{applied_of}
 use Rattle.judge.proofs.values.apply.Goals as goal
 
-pub returns-in-NoValue : goal.returns-in-NoValue
+pub returns-in-None : goal.returns-in-None
 unfolding first ruled no_value applied_of
-returns-in-NoValue c = rw (← c.content.ensures, read_none _ _ c.decode.ensures c.in-NoValue.is)
+returns-in-None c = c.refused.ensures ∙ rw (← c.content.ensures, read_none _ _ c.decode.ensures c.in-None.is)
 
-pub returns-in-Value : goal.returns-in-Value
+pub returns-in-Some : goal.returns-in-Some
 unfolding first ruled no_value applied_of
-returns-in-Value c = let r = read_value _ _ c.decode.ensures _ _ c.in-Value.is in
+returns-in-Some c = let r = read_value _ _ c.decode.ensures _ _ c.in-Some.is in
     c.load.ensures ∙ rw (c.total.ensures, c.operand_of-operand.ensures, ← c.content.ensures, r.0, ← r.1, ← r.2)

@@ -4,4 +4,4 @@ use Rattle.kept.proofs.sealing.refused.Goals as goal
 
 pub returns : goal.returns
 unfolding refused_kept
-returns c = rw c.refusal-answer.ensures
+returns c = rw (c.refusal-answer.ensures, c.number.ensures)

@@ -4,4 +4,4 @@ use Rattle.kept.proofs.sealing.sealed_kept.Goals as goal
 
 pub returns : goal.returns
 unfolding sealed_kept_of
-returns c = rw c.sealed_card-answer.ensures
+returns c = rw c.sealed_card.ensures

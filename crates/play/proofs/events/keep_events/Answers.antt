@@ -1,33 +1,32 @@
--- The loop's invariant is `Going`; the measure is the events left.
-use mathlib.Core.Path.{ap}
+-- The loop's invariant is `Going`.
+use mathlib.Core.Path.{◌≡◌, ap}
+use Prim.Native.Nat.{◌+◌, ◌-◌}
 use native.Mathlib.Omega.{arith}
 use Rattle.runs.specs.Run.{State}
 use Rattle.play.proofs.Going.{started, answer_room, due, turn, end_kept, end_state, end_place}
 use Rattle.play.proofs.events.keep_events.Goals as goal
 
-pub loop-left-init : goal.loop-left-init
-loop-left-init c = let p = c.requires in started _ _ _ _ _ _ _ _ _ c.fresh-session.ensures p.0 p.1 p.2
+pub loop-i-init : goal.loop-i-init
+loop-i-init g c = let e : c.event_count-count.result + 1 - 1 ≡ c.event_count-count.result = omega arith in
+    rw e (started _ _ _ _ _ _ c.requires.lawful _ _ _ c.fresh-session.ensures c.event_count-count.ensures c.events_start-place.ensures c.requires.room)
 
-pub keep-end-requires : goal.keep-end-requires
-keep-end-requires c = answer_room _ _ _ _ _ _ _ _ c.loop-left.invariant c.loop-left-test.true
+pub keep-requires : goal.keep-requires
+keep-requires g c = answer_room _ _ _ _ _ _ c.loop-i.invariant (omega arith)
 
-pub overflow_add-i : goal.overflow_add-i
-overflow_add-i c = omega (arith, c.loop-left.invariant.few)
+pub loop-i-preserved : goal.loop-i-preserved
+loop-i-preserved g c = let v = c.loop-i.invariant in
+    let e : c.event_count-count.result + 1 - (c.loop-i.i + 1) ≡ c.event_count-count.result + 1 - c.loop-i.i - 1 = omega arith in
+    rw e (turn _ _ _ _ _ _ v _ _ _ _ _ (omega arith) (due _ _ _ _ _ _ v _ _ (omega arith) c.event_from-here.ensures c.bytes_of-frame.ensures) c.event-a.ensures.value c.event-a.ensures.image_after c.event-a.auto.image c.keep.ensures.puts c.keep.ensures.upper_bound (ap (λ x. x.next) c.event_from-here.ensures))
 
-pub loop-left-preserved : goal.loop-left-preserved
-loop-left-preserved c = let g = c.loop-left.invariant in
-    let h = c.loop-left-test.true in
-    let f = due _ _ _ _ _ _ _ _ g _ _ h c.event_from-here.ensures c.bytes_of-frame.ensures in
-    turn _ _ _ _ _ _ _ _ g _ _ _ _ _ _ h f c.event-a.ensures.value c.event-a.ensures.image_after c.event-a.auto.image c.keep-end.ensures.put c.keep-end.ensures.upper_bound (ap (λ x. x.next) c.event_from-here.ensures)
-
-pub shape_of-image : goal.shape_of-image
-shape_of-image c = c.loop-left.invariant.same_image
-
-pub shape_of-out : goal.shape_of-out
-shape_of-out c = c.loop-left.invariant.same_out
-
+-- no event at all
 pub returns : goal.returns
-returns c = let g = c.loop-left.invariant in
-    let h = c.loop-left-test.false in
-    let e = end_state _ _ _ _ _ _ _ _ g h in
-    record { put = end_kept _ _ _ _ _ _ _ _ g h; session_value = ap (λ (x : State). x.session) e; card_value = ap (λ (x : State). x.card) e; image_after = ap (λ (x : State). x.image) e; end_bound = end_place _ _ _ _ _ _ _ _ g h }
+returns g c = let v = c.loop-i.invariant in
+    let e = end_state _ _ _ _ _ _ v (omega arith) in
+    record { puts = end_kept _ _ _ _ _ _ v (omega arith); session_value = ap (λ (x : State). x.session) e; card_value = ap (λ (x : State). x.card) e; image_after = ap (λ (x : State). x.image) e; end_bound = end_place _ _ _ _ _ _ v (omega arith) }
+
+-- after the last one
+pub returns-2 : goal.returns-2
+returns-2 g c = let v = c.loop-i.invariant in
+    let t = turn _ _ _ _ _ _ v _ _ _ _ _ (omega arith) (due _ _ _ _ _ _ v _ _ (omega arith) c.event_from-here.ensures c.bytes_of-frame.ensures) c.event-a.ensures.value c.event-a.ensures.image_after c.event-a.auto.image c.keep.ensures.puts c.keep.ensures.upper_bound (ap (λ x. x.next) c.event_from-here.ensures) in
+    let e = end_state _ _ _ _ _ _ t (omega arith) in
+    record { puts = end_kept _ _ _ _ _ _ t (omega arith); session_value = ap (λ (x : State). x.session) e; card_value = ap (λ (x : State). x.card) e; image_after = ap (λ (x : State). x.image) e; end_bound = end_place _ _ _ _ _ _ t (omega arith) }

@@ -1,8 +1,6 @@
+use Prim.Native.Nat.{◌+◌, ◌-◌}
 use Rattle.play.proofs.Going.{Going}
 use Rattle.play.proofs.events.keep_events.Given as goal
 
-abbrev pub invariant-loop-left : goal.invariant-loop-left
-invariant-loop-left l = Going l.form l.initial.k l.script l.initial.image l.initial.out l.at l.count l.start l.image l.out l.k l.session l.place l.end l.i l.left
-
-abbrev pub decreases-loop-left : goal.decreases-loop-left
-decreases-loop-left l = l.left
+abbrev pub invariant-loop-i : goal.invariant-loop-i
+invariant-loop-i g l = Going g.F.Form.width (g.F.Form.kept l.form) l.initial.k l.script l.initial.image l.initial.printer l.image l.printer l.k l.session l.place l.i (l.count + 1 - l.i)

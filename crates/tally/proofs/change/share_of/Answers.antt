@@ -7,4 +7,4 @@ returns-in_default c = no_share _ _ c.decode.ensures c.in_default.is
 
 pub returns : goal.returns
 returns c = let v = c in
-    its_share _ _ v.decode.ensures _ _ _ v.in-Value.is c.extended-sum.ensures
+    its_share _ _ v.decode.ensures _ _ _ v.in-Some.is c.extended-sum.ensures

@@ -1,4 +1,4 @@
--- The loop's invariant is `Counting`; the measure is the blocks left.
+-- No block, a block more, and all blocks.
 use Rattle.tally.proofs.Ways.{start, turn, finished}
 use Rattle.tally.proofs.full.count_all.Goals as goal
 
@@ -6,9 +6,7 @@ pub loop-i-init : goal.loop-i-init
 loop-i-init c = start _ _ c.blocks_of-blocks.ensures
 
 pub loop-i-preserved : goal.loop-i-preserved
-loop-i-preserved c = let s = c in
-    let l = s in
-    turn _ _ _ _ _ _ l.loop-i.invariant l.loop-i-test.true s.share_at.ensures c.added-f.ensures
+loop-i-preserved c = turn _ _ _ _ _ _ c.loop-i.invariant c.loop-i-test.true c.share_at.ensures c.added-f.ensures
 
 pub returns : goal.returns
 returns c = finished _ _ _ _ c.loop-i.invariant c.loop-i-test.false

@@ -1,8 +1,0 @@
--- The two blocks are the part.
-use mathlib.Core.Path.{◌∙◌}
-use Rattle.directory.specs.Directory.{part_of, is_intact}
-use Rattle.directory.proofs.parts.first_intact.Goals as goal
-
-pub returns : goal.returns
-unfolding is_intact part_of
-returns c = c.right_two.ensures ∙ rw (c.content-a.ensures, c.content-b.ensures)
