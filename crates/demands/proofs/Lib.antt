@@ -39,3 +39,4 @@ pub mod Boundary
 pub mod CardBoundary
 pub mod Patches
 pub mod Played
+pub mod Served

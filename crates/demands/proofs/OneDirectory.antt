@@ -16,6 +16,7 @@ use Rattle.directory.proofs.entry_at.Reads as entry-at-contract
 use Rattle.directory.proofs.sector_of_place.Reads as sector-of-place-contract
 use Rattle.directory.proofs.entry_count.Reads as entry-count-contract
 use Rattle.directory.proofs.intact_version.Reads as intact-version-contract
+use Rattle.directory.proofs.refusal_of.Reads as refusal-of-contract
 use Rattle.directory.proofs.lookup.Reads as lookup-contract
 use Rattle.demands.specs.One.{OneResult}
 use Rattle.demands.proofs.Exact.{exact}
@@ -43,6 +44,9 @@ entry_count_lem version = exact
 
 pub intact_version_lem : (κ : Lft) (image : Bor (List ℕ)) → OneResult (λ r. intact-version-contract.Post (κ, tt) (image, tt) r (image, tt))
 intact_version_lem κ image = exact
+
+pub refusal_of_lem : (κ : Lft) (image : Bor (List ℕ)) → OneResult (λ r. refusal-of-contract.Post (κ, tt) (image, tt) r (image, tt))
+refusal_of_lem κ image = exact
 
 pub lookup : (κ : Lft) (image : Bor (List ℕ)) (wanted : ℕ) → OneResult (λ r. lookup-contract.Post (κ, tt) (image, (wanted, tt)) r (image, (wanted, tt)))
 lookup κ image wanted = exact

@@ -12,13 +12,16 @@ use prog.Routine.{Routine}
 use types.Logic.{Logic}
 use contract.Monad.{Fun, fact}
 use denote.Bor.{Bor}
+use denote.RattleType.{RattleType}
+use denote.Param.Laws.{Laws, IsCopy}
+use mir.Syntax.{Dict}
+use Rattle.std.specs.declared.clone.Clone as clone
 use denote.Ref.{MutBor}
 use denote.Triple.Clauses.{at_exit}
 use Rattle.script.specs.Script.{events_start}
 use Rattle.reader.specs.Reader.{step_at}
 use Rattle.reader.specs.declared.Reader.{Reader}
 use Rattle.std.specs.Prelude.{Option, Result}
-use Rattle.script.specs.declared.Refusal.{Refusal}
 use Rattle.reader.specs.declared.Event.{Event}
 use Rattle.reader.specs.declared.Step.{Step}
 use Rattle.reader.specs.contracts.open as open-contract
@@ -85,7 +88,8 @@ module _ {M : Type 1} {𝓤 : Ura M} (𝓛 : Logic 𝓤) (mem : Memory → SProp
 pub event_from_lem : (κ : Lft) (script : Bor (List ℕ)) (at : ℕ) → OneResult (λ r. event-from-contract.Post (κ, tt) (script, (at, tt)) r (script, (at, tt)))
 event_from_lem κ script at = exact
 
-pub bytes_of : (κ : Lft) (script : Bor (List ℕ)) (found : Option (Result Event Refusal)) (r r' : Bor (List ℕ))
-    → bytes-of-contract.Post (κ, tt) (script, (found, tt)) r (script, (found, tt)) → bytes-of-contract.Post (κ, tt) (script, (found, tt)) r' (script, (found, tt))
+pub bytes_of : (E : RattleType) (laws : Laws E) (copied : IsCopy E) (clones : clone.Ghosts E.Denot) (dict : Dict) (κ κ' : Lft) (script : Bor (List ℕ)) (found : Option (Result Event E.Denot)) (r r' : Bor (List ℕ))
+    → bytes-of-contract.Post E laws copied clones dict (κ, (κ', tt)) (script, (found, tt)) r (script, (found, tt))
+    → bytes-of-contract.Post E laws copied clones dict (κ, (κ', tt)) (script, (found, tt)) r' (script, (found, tt))
     → r.now ≡ r'.now
-bytes_of κ script found r r' p q = p ∙ sym q
+bytes_of E laws copied clones dict κ κ' script found r r' p q = p ∙ sym q

@@ -5,6 +5,8 @@ use Prim.Native.Nat.{ℕ}
 use base.Fml.{Lft}
 use denote.Ref.{Bor}
 use Rattle.tally.specs.declared.change.Figures.{Figures}
+use Rattle.tally.specs.declared.Refusal.{Refusal}
+use Rattle.tally.proofs.Refusal.number.Reads as number-contract
 use Rattle.tally.proofs.in_range.Reads as in-range-contract
 use Rattle.tally.proofs.after.Reads as after-contract
 use Rattle.tally.proofs.open.Reads as open-contract
@@ -27,3 +29,6 @@ decode bytes = exact
 
 pub encode : (f : Figures) → OneResult (λ r. encode-contract.Post tt (f, tt) r (f, tt))
 encode f = exact
+
+pub number : (r : Refusal) → OneResult (λ n. number-contract.Post tt (r, tt) n (r, tt))
+number r = exact

@@ -1,7 +1,7 @@
 -- Runs that meet the premises, with the numbers of their answers. Of demand 3: a load transferred twice, one refused for its range, a wrong checksum, another block written, a second load; and on a
 -- 4K card a Restore, a field reset and a Halt. Of a ride card: a decrement of -50 refused and the Transfer after it too, and a load transferred into another block. Of the total: a value block
 -- written over, a value moved, a wrong checksum, and figures at the end of their range.
-use Rattle.std.specs.Prelude.{◌≡◌, List, [], ◌∷◌, ◌++◌, map, ℕ, zero, suc, ℤ, pos, negsuc, replicate, None, Some}
+use Rattle.std.specs.Prelude.{◌≡◌, List, [], ◌∷◌, ◌++◌, map, ℕ, zero, suc, ℤ, pos, negsuc, replicate, None, Some, Ok}
 use Rattle.layout.specs.Layout.{block_at, sector_at, trailer_of}
 use Rattle.layout.specs.declared.Block.{Block}
 use Rattle.layout.specs.declared.Sector.{Sector}
@@ -215,12 +215,12 @@ pub record FiguresRun (st : KeptState) (events : List Sent) (numbers : List ℕ)
   pub summed : map (λ (f : Figures). whole f.sum) (figures_along st events) ≡ sums
 
 pub record TotalRun : Type 0 where
-  pub opened : opened_of total_card ≡ Some (figures_of (pos 2) (pos 70))
+  pub opened : opened_of total_card ≡ Ok (figures_of (pos 2) (pos 70))
   pub run :
       FiguresRun (opening old_card total_card) total_events (0 ∷ 0 ∷ 0 ∷ 0 ∷ 0 ∷ 0 ∷ 14 ∷ 0 ∷ 0 ∷ 0 ∷ 0 ∷ 0 ∷ [])
       (pos 2 ∷ pos 2 ∷ pos 1 ∷ pos 1 ∷ pos 1 ∷ pos 2 ∷ pos 2 ∷ pos 2 ∷ pos 2 ∷ pos 2 ∷ pos 2 ∷ pos 2 ∷ [])
       (pos 70 ∷ pos 70 ∷ negsuc 29 ∷ negsuc 29 ∷ negsuc 29 ∷ negsuc 59 ∷ negsuc 59 ∷ negsuc 59 ∷ negsuc 59 ∷ negsuc 59 ∷ negsuc 64 ∷ negsuc 64 ∷ [])
-  pub anew : opened_of (kept_run_of (opening old_card total_card) total_events).state.image ≡ Some (figures_of (pos 2) (negsuc 64))
+  pub anew : opened_of (kept_run_of (opening old_card total_card) total_events).state.image ≡ Ok (figures_of (pos 2) (negsuc 64))
 
 -- the same card with a count of 255, which no opening gives
 abbrev pub counted_full : KeptState

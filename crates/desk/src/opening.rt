@@ -5,28 +5,28 @@ ghost use Rattle.edition.specs.Bytes.{found_in};
 ghost use Rattle.desk.specs.Opening.{opened_for, opened_with, opening_number, opening_figures};
 
 use edition::CardRecord;
-use tally::Figures;
+use tally::{Figures, Refusal};
 
 // The opening of a card with this record: an EV1 has one size.
 #[tactic(auto, unfolding(crate::specs::Opening::opened_for))]
-fn opened_for(image: &[u8], k: CardRecord) -> Option<Figures>
+fn opened_for(image: &[u8], k: CardRecord) -> Result<Figures, Refusal>
     ensures { result ≡ opened_for image.now k }
 {
     let edition = k.edition;
     if edition::is_wrong_size(edition, image.len()) {
-        return None;
+        return Err(Refusal::NoCard);
     }
     tally::open(image)
 }
 
 // The opening by what four bytes hold.
 #[tactic(auto, unfolding(crate::specs::Opening::opened_with))]
-fn opened(image: &[u8], found: Option<CardRecord>) -> Option<Figures>
+fn opened(image: &[u8], found: Option<CardRecord>) -> Result<Figures, Refusal>
     ensures { result ≡ opened_with image.now found }
 {
     match found {
         Some(k) => opened_for(image, k),
-        None => None,
+        None => Err(Refusal::NoCard),
     }
 }
 
@@ -38,5 +38,5 @@ pub fn tirlwheel_open(image: &[u8], card: &[u8; 4], figures: &mut [u8; 16]) -> u
     let found = edition::decode(*card);
     let told = opened(image, found);
     *figures = tally::encode(told.unwrap_or(Figures { count: 0, sum: 0 }));
-    told.map_or(11, |_| 0)
+    told.map_or_else(|refusal| u32::from(refusal.number()), |_| 0)
 }

@@ -12,9 +12,13 @@ use borrow.Author.Tests.{ltb-true, ltb-false, eq-eqb, ne_eqb}
 use Rattle.memory.specs.Memory.{content_of, byte_of}
 use Rattle.memory.proofs.Laws.{content_length}
 use Rattle.directory.specs.Directory.{part_of, info_of, numbers_of, entries_in, entries_of, entry_at}
+use Rattle.std.specs.Prelude.{Some, None}
 use Rattle.directory.specs.Code.{number_at}
+use Rattle.directory.specs.Lookup.{place_from}
+use Rattle.directory.specs.declared.Version.{Version}
+use Rattle.directory.specs.declared.Version.TheVariants.{One, Two}
 use Rattle.directory.specs.declared.Part.TheVariants.{First, Second}
-use Rattle.directory.proofs.Numbers.{numbers_length, number_at_lem}
+use Rattle.directory.proofs.Numbers.{numbers_length, number_at_lem, stays, goes_on}
 use Rattle.layout.specs.Layout.{block_at}
 
 -- two bytes as a number
@@ -69,6 +73,18 @@ module _ (image : List ℕ) where
   pub second_entries : length (entries_in image Second) ≡ 23
   unfolding entries_in
   second_entries = numbers_length 23 (drop 2 (part_of image Second)) (simp (length-drop, second_length))
+
+  -- the place of a number, in the first part or past it
+  pub in_version : (v : Version) (w r : ℕ) → place_from 1 w (entries_in image First) ≡ Some r → place_from 1 w (entries_of image v) ≡ Some r
+  unfolding entries_of
+  in_version One w r e = e
+  in_version Two w r e = stays (entries_in image First) (entries_in image Second) 1 w r e
+
+  pub past_first_part : (w : ℕ) → place_from 1 w (entries_in image First) ≡ None → place_from 16 w (entries_in image Second) ≡ place_from 1 w (entries_of image Two)
+  unfolding entries_of
+  past_first_part w z =
+      let l : 1 + length (entries_in image First) ≡ 16 = omega (arith, first_entries) in
+      rw l at (goes_on (entries_in image First) (entries_in image Second) 1 w z)
 
   entry_of_first : (k : ℕ) → 0 < k → get_or (entries_in image First) (k - 1) 0 ≡ pair_at (part_of image First) (2 * k)
   unfolding entries_in

@@ -1,5 +1,6 @@
 -- Which sector is an application's: the lookup, its refusals, and the entries it looked at.
 use Rattle.std.specs.Prelude.{cond, ◌&&◌, Bool, List, [], ◌∷◌, ℕ, suc, ◌+◌, leb, eqb, length, Option, Some, None, Result, Ok, Err}
+use Rattle.std.specs.Result.{result_and}
 use Rattle.layout.specs.Layout.{sectors_of}
 use Rattle.layout.specs.declared.Sector.{Sector}
 use Rattle.directory.specs.Directory.{version_of, is_intact, entries_of}
@@ -45,6 +46,10 @@ judged image (Some v) = cond (is_right image v) (Ok v) (Err WrongChecksum)
 -- the version of an image's directory, or why it is not read: first, no card has this size
 unfoldable pub intact_version : List ℕ → Result Version Refusal
 intact_version image = cond (eqb (sectors_of (length image)) 0) (Err NoCard) (judged image (version_of image))
+
+-- why an image's directory is not read, if it is not
+unfoldable pub refusal_of : List ℕ → Result (Unit {0}) Refusal
+refusal_of image = result_and (intact_version image) (Ok tt)
 
 -- the answer for the place of the match among so many entries; without a match all were looked at
 unfoldable pub looked_of : ℕ → Option ℕ → Looked

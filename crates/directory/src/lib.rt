@@ -15,7 +15,7 @@ mod words;
 
 pub use entries::entry_at;
 pub use parts::{checksum, is_intact};
-pub use search::{entry_count, intact_version, lookup, sector_of_place};
+pub use search::{entry_count, intact_version, lookup, refusal_of, sector_of_place};
 
 // The version of a directory, by its number.
 #[derive(Clone, Copy)]

@@ -1,7 +1,7 @@
 // Which sector is an application's.
 ghost use Rattle.std.specs.Prelude.{◌≡◌};
 ghost use Rattle.directory.specs.Directory.{entries_of};
-ghost use Rattle.directory.specs.Lookup.{entry_count, sector_of_place, is_right, intact_version, place_from, lookup_of};
+ghost use Rattle.directory.specs.Lookup.{entry_count, sector_of_place, is_right, intact_version, refusal_of, place_from, lookup_of};
 
 use crate::{Looked, Part, Refusal, Version, entries, parts};
 use layout::Sector;
@@ -62,16 +62,25 @@ pub fn intact_version(image: &[u8]) -> Result<Version, Refusal>
     Err(Refusal::WrongChecksum)
 }
 
+// Why an image's directory is not read: 11, then 15, then 16.
+#[tactic(auto, unfolding(crate::specs::Lookup::refusal_of))]
+pub fn refusal_of(image: &[u8]) -> Result<(), Refusal>
+    ensures { result ≡ refusal_of image.now }
+{
+    intact_version(image).and(Ok(()))
+}
+
 // The place of the first entry that is the wanted number.
 fn place_of(image: &[u8], version: Version, wanted: u32) -> Option<u8>
     ensures { result ≡ place_from 1 wanted (entries_of image.now version) }
 {
-    for place in 1..entry_count(version) + 1 {
-        if u32::from(entries::entry_at(image, place)) == wanted {
-            return Some(place);
-        }
+    if let Some(place) = entries::place_in_first(image, wanted) {
+        return Some(place);
     }
-    None
+    match version {
+        Version::One => None,
+        Version::Two => entries::place_in_second(image, wanted),
+    }
 }
 
 // The lowest sector that holds a wanted number, and how many entries were looked at for it.

@@ -1,5 +1,5 @@
 // A file of figures: read, its lines counted, and those that agree.
-ghost use Rattle.std.specs.Prelude.{◌≤◌, ◌<◌};
+ghost use Rattle.std.specs.Prelude.{◌≤◌, ◌<◌, length};
 ghost use Rattle.std.specs.Counts.{IsPrefixLen};
 
 use crate::line;
@@ -23,7 +23,9 @@ fn fill(file: &mut impl Read, space: &mut [u8]) -> usize
 }
 
 // What a file holds, as far as the space goes; nothing where it cannot be opened or read.
-fn load<'a>(rt: &impl Files, path: &str, space: &'a mut [u8]) -> &'a [u8] {
+fn load<'a>(rt: &impl Files, path: &str, space: &'a mut [u8]) -> &'a [u8]
+    ensures { length result.now ≤ length space.old }
+{
     let n = match File::open(rt, path) {
         Ok(mut file) => fill(&mut file, space),
         Err(_) => 0,

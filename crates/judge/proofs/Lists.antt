@@ -26,7 +26,7 @@ use Rattle.judge.specs.declared.checks.Grant.{Grant}
 use Rattle.judge.specs.declared.checks.Grant.TheVariants.{Whole, InParts}
 use Rattle.judge.specs.First.{Check, check, Outcome, passes, refuses, first, ruled}
 use Rattle.judge.specs.Checks.{access_of, no_value, is_forbidden, kind_column, memory_checks, checks_of}
-use Rattle.judge.specs.Code.{numbered, refusal_number, grant_of, granted, verdict_of, column_of, block_of, is_memory, done_with, coded_of}
+use Rattle.judge.specs.Code.{numbered, grant_of, granted, verdict_of, column_of, block_of, is_memory, done_with, coded_of}
 
 -- the first part refuses
 pub stop : (xs ys : List Check) (n : ℕ) → first xs ≡ refuses n → first (xs ++ ys) ≡ refuses n
@@ -124,28 +124,31 @@ is_memory_lem (Apply b j) u a h = refl
 is_memory_lem (Transfer b) u a h = refl
 is_memory_lem Halt u a h = absurd (h refl)
 
--- the code's way: the column and the block that it asked about, and the verdict that it got
-module _ (image : List ℕ) (s : Session) (c : Command) (frame : List ℕ) (o : Operation) (b : Block) (v : Result Grant Refusal) (memory : is_memory c ≡ true)
-    (asked : o ≡ column_of c) (about : b ≡ block_of c) (got : numbered v ≡ verdict_of image s.auth o b) where
-  abbrev shared : List Check
-  shared = memory_checks image s.auth (column_of c) (block_of c)
+abbrev shared : List ℕ → Session → Command → List Check
+shared image s c = memory_checks image s.auth (column_of c) (block_of c)
 
-  judged : granted (first shared) (grant_of (access_of image (block_of c)) s.auth (column_of c) (block_of c)) ≡ numbered v
+-- the code's way: the column and the block that it asked about, and the verdict on them, by the number of its refusal
+module _ (image : List ℕ) (s : Session) (c : Command) (frame : List ℕ) (o : Operation) (b : Block) (v : Result Grant ℕ) (memory : is_memory c ≡ true)
+    (asked : o ≡ column_of c) (about : b ≡ block_of c) (got : v ≡ verdict_of image s.auth o b) where
+  judged : granted (first (shared image s c)) (grant_of (access_of image (block_of c)) s.auth (column_of c) (block_of c)) ≡ v
   unfolding verdict_of
   judged = rw (asked, about) at (sym got)
 
-  pub stopped : (r : Refusal) → v ≡ Err r → Refused (refusal_number r) ≡ coded_of image s c frame
+  pub stopped : (n : ℕ) → v ≡ Err n → Refused n ≡ coded_of image s c frame
   unfolding coded_of ruled
-  stopped r e =
-      let f : first shared ≡ refuses (refusal_number r) = told_stop (first shared) _ (refusal_number r) (judged ∙ ap numbered e) in
-      rw (two_parts image s c frame memory, stop shared (further_of image s c) (refusal_number r) f)
+  stopped n e =
+      let f : first (shared image s c) ≡ refuses n = told_stop (first (shared image s c)) _ n (judged ∙ e) in
+      rw (two_parts image s c frame memory, stop (shared image s c) (further_of image s c) n f)
 
+-- and the verdict that it got
+module _ (image : List ℕ) (s : Session) (c : Command) (frame : List ℕ) (o : Operation) (b : Block) (v : Result Grant Refusal) (memory : is_memory c ≡ true)
+    (asked : o ≡ column_of c) (about : b ≡ block_of c) (got : numbered v ≡ verdict_of image s.auth o b) where
   pub passed : (w : Grant) → v ≡ Ok w → (c' : Command) → c ≡ c'
       → ruled (first (further_of image s c')) (done_with w image s c' frame) ≡ coded_of image s c frame
   unfolding coded_of
   passed w e c' q =
-      let f = told_pass (first shared) _ w (judged ∙ ap numbered e) in
-      rw (← q) (rw (two_parts image s c frame memory, pass shared (further_of image s c) f.0, f.1))
+      let f = told_pass (first (shared image s c)) _ w (judged image s c frame o b (numbered v) memory asked about got ∙ ap numbered e) in
+      rw (← q) (rw (two_parts image s c frame memory, pass (shared image s c) (further_of image s c) f.0, f.1))
 
   -- only a Read and a Write come to parts of a trailer: 6 refuses the others
   pub no_parts : (m : ℕ) → v ≡ Ok (InParts m) → ((d : Block) → c ≡ Read d → ⊥) → ((d : Block) → c ≡ Write d → ⊥) → ((d : Block) → c ≡ Store d → ⊥) → (act : Act) → act ≡ coded_of image s c frame

@@ -19,10 +19,11 @@ use Rattle.edition.specs.Edition.{Choice}
 use Rattle.either_card.specs.Answers.{CardAnswer}
 use Rattle.std.specs.Prelude.{Ok, Err}
 use Rattle.script.specs.declared.Refusal.{Refusal}
+use Rattle.script.specs.declared.lock.Unlawful.{Unlawful}
 use Rattle.script.specs.declared.Refusal.TheVariants.{CutShort, NoSuchSize, TooManyEvents, EventTooLong, LeftOver, TooManyTypes, UnknownType}
 use Rattle.script.specs.contracts.Refusal.{the_type}
 use denote.Enum.Declared.{tag_of}
-use Rattle.std.specs.Result.{result_and, is_err}
+use Rattle.std.specs.Result.{is_err}
 use Rattle.script.specs.Script.{number_of, Judged, Reading, lawful, refused, refusal_in, read_as, left_over, image_size, image_part, event_count, events_start, Walk, walked, stopped, events_from, no_size, body_of, ended_at, reading_of, stop_in, events_on}
 use Rattle.script.specs.Lock.{lock_refusal, locked_at, ev1_reading_of, chosen_in}
 use Rattle.script.proofs.Long.{long_refused, long_refused_ev1}
@@ -165,15 +166,10 @@ module _ (choice : Choice) where
   lawful_choice (lawful events) c e = (refl, cc)
   lawful_choice (refused r) c e = (cc, cc)
 
-  pub refused_choice : (reading : Reading) (r : Refusal) → chosen_in reading choice ≡ Err r → refusal_in reading ≡ Err r
+  pub refused_choice : (reading : Reading) (u : Unlawful) → chosen_in reading choice ≡ Err u → refusal_in reading ≡ Err u.refusal
   unfolding chosen_in refusal_in
-  refused_choice (lawful events) r e = cc
-  refused_choice (refused n) r e = let p : n ≡ r = cc in rw p
-
-  pub refusal_of_choice : (reading : Reading) → result_and (chosen_in reading choice) (Ok tt) ≡ refusal_in reading
-  unfolding chosen_in refusal_in
-  refusal_of_choice (lawful events) = refl
-  refusal_of_choice (refused r) = refl
+  refused_choice (lawful events) u e = cc
+  refused_choice (refused n) u e = let p : record { refusal = n; choice = choice } ≡ u = cc in ap (λ (v : Unlawful). Err v.refusal) p
 
 -- the number of a refusal, as the code reads it
 pub as_number : (r : Refusal) → tag_of the_type r + 20 ≡ number_of r

@@ -32,13 +32,16 @@ pub struct Ended {
 }
 
 // The refusal of a card's script, by the card's edition.
-#[tactic(auto, using(crate::proofs::Whole::refusal_of_choice), unfolding(crate::specs::Run::reading_for, script::specs::Lock::ev1_script_of))]
+#[tactic(auto, unfolding(crate::specs::Run::reading_for))]
 fn refusal_for(edition: Edition, script: &[u8]) -> Result<(), Refusal>
     ensures { result ≡ refusal_in (reading_for edition script.now) }
 {
     match edition {
         Edition::Old => script::refusal_of(script),
-        Edition::Ev1 => script::ev1_script(script).and(Ok(())),
+        Edition::Ev1 => match script::ev1_script(script) {
+            Ok(_) => Ok(()),
+            Err(unlawful) => Err(unlawful.refusal),
+        },
     }
 }
 
@@ -156,6 +159,6 @@ pub fn play_ev1(script: &[u8], out: &mut [u8; 65536]) -> usize
             };
             put_run(card, script, out)
         }
-        Err(refusal) => put_refusal(refusal, out),
+        Err(unlawful) => put_refusal(unlawful.refusal, out),
     }
 }

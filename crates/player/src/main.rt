@@ -1,11 +1,15 @@
 // The script player: standard input in, the printout out. Nothing is decided here.
 #![tactic(auto)]
 
+ghost use Rattle.std.specs.Prelude.{◌≤◌, length};
+
 use std::io;
 use std::io::Read;
 
 // Reads until the space is full, the input ends or a read fails, and hands back what came.
-fn fill<'a>(input: &mut impl Read, space: &'a mut [u8]) -> &'a [u8] {
+fn fill<'a>(input: &mut impl Read, space: &'a mut [u8]) -> &'a [u8]
+    ensures { length result.now ≤ length space.old }
+{
     let mut done = 0;
     while done < space.len() {
         match input.read(&mut space[done..]) {

@@ -2,11 +2,15 @@
 // What it has in common with `player` stands in both: a library's public functions must each have one result (.ci/one-result), and one that reads has none.
 #![tactic(auto)]
 
+ghost use Rattle.std.specs.Prelude.{◌≤◌, length};
+
 use std::io;
 use std::io::Read;
 
 // Reads until the space is full, the input ends or a read fails, and hands back what came.
-fn fill<'a>(input: &mut impl Read, space: &'a mut [u8]) -> &'a [u8] {
+fn fill<'a>(input: &mut impl Read, space: &'a mut [u8]) -> &'a [u8]
+    ensures { length result.now ≤ length space.old }
+{
     let mut done = 0;
     while done < space.len() {
         match input.read(&mut space[done..]) {

@@ -16,7 +16,7 @@ use Rattle.reader.specs.Reader.{found_at, part_of, bytes_of}
 
 -- what one more event of a walk makes of what was found, with the walk over the rest
 unfoldable pub read_by : List ℕ → Option (Result Event Refusal) → Walk → Walk
-read_by script (Some (Ok event)) rest = before (bytes_of script (Some (Ok event))) rest
+read_by script (Some (Ok event)) rest = before (bytes_of {E = Refusal} script (Some (Ok event))) rest
 read_by script (Some (Err r)) rest = stopped r
 read_by script None rest = stopped CutShort
 

@@ -20,7 +20,7 @@ unfoldable pub part_of : List ℕ → ℕ → ℕ → List ℕ
 part_of script start count = cond (leb (start + count) (length script)) (take count (drop start script)) []
 
 -- the bytes of what was found: none but for an event
-unfoldable pub bytes_of : List ℕ → Option (Result Event Refusal) → List ℕ
+unfoldable pub bytes_of : {E : Type 0} → List ℕ → Option (Result Event E) → List ℕ
 bytes_of script (Some (Ok event)) = part_of script event.start event.count
 bytes_of script (Some (Err r)) = []
 bytes_of script None = []

@@ -59,9 +59,9 @@ fn part(script: &[u8], start: usize, count: usize) -> &[u8]
         .unwrap_or(&[])
 }
 
-// The bytes of what was found in a script; none but for an event.
+// The bytes of what was found in a script; none but for an event, whatever refuses one.
 #[tactic(auto, unfolding(crate::specs::Reader::bytes_of))]
-pub fn bytes_of(script: &[u8], found: Option<Result<Event, Refusal>>) -> &[u8]
+pub fn bytes_of<E: Copy>(script: &[u8], found: Option<Result<Event, E>>) -> &[u8]
     ensures { result.now ≡ bytes_of script.now found }
 {
     match found {

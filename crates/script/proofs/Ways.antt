@@ -4,7 +4,7 @@ use mathlib.Core.Path.{◌≡◌, refl, sym, ap}
 use mathlib.Core.List.{List}
 use Prim.Native.Nat.{ℕ, suc, ◌-◌, ◌<◌}
 use native.Mathlib.Omega.{arith}
-use Rattle.std.specs.Prelude.{Ok, Err}
+use Rattle.std.specs.Prelude.{Ok, Err, None}
 use Rattle.script.specs.declared.Refusal.{Refusal}
 use Rattle.script.specs.Lock.{lock_refusal, lock_at, locked_at, choice_in, chosen_in}
 use Rattle.script.specs.Script.{Judged, refusal_in, read_as, event_refusal, Walk, walked, stopped, frame_at, next_at, before, onward, events_from, left_over, ended_at, place_of}
@@ -58,13 +58,14 @@ module _ (script : List ℕ) where
   ended_late (stopped n) at e = cc
 
   -- and of an EV1's
-  pub locked_early : (w : Walk) (r : Refusal) → place_of w ≡ Err r → Err r ≡ chosen_in (locked_at script w) (choice_in script w)
-  unfolding place_of locked_at chosen_in
+  pub locked_early : (w : Walk) (r : Refusal) → place_of w ≡ Err r → Err (record { refusal = r; choice = None }) ≡ chosen_in (locked_at script w) (choice_in script w)
+  unfolding place_of locked_at chosen_in choice_in
   locked_early (walked events place) r e = cc
   locked_early (stopped n) r e = let p : n ≡ r = cc in rw p
 
-  pub locked_late : (w : Walk) (at : ℕ) (r : Refusal) → place_of w ≡ Ok at → lock_refusal script at ≡ Err r → Err r ≡ chosen_in (locked_at script w) (choice_in script w)
-  unfolding place_of locked_at read_as chosen_in
+  pub locked_late : (w : Walk) (at : ℕ) (r : Refusal) → place_of w ≡ Ok at → lock_refusal script at ≡ Err r
+      → Err (record { refusal = r; choice = lock_at script at }) ≡ chosen_in (locked_at script w) (choice_in script w)
+  unfolding place_of locked_at read_as chosen_in choice_in
   locked_late (walked events place) at r e q = let p : place ≡ at = cc in rw (p, q)
   locked_late (stopped n) at r e q = cc
 

@@ -4,7 +4,7 @@ use Rattle.edition.specs.Bytes.{is_usage, choice_by}
 use Rattle.edition.specs.declared.Edition.TheVariants.{Ev1}
 use Rattle.edition.specs.Edition.{Choice}
 use Rattle.script.specs.Script.{Judged, Reading, lawful, refused, read_as, Walk, walked, stopped, body_of, left_over}
-use Rattle.script.specs.declared.Refusal.{Refusal}
+use Rattle.script.specs.declared.lock.Unlawful.{Unlawful}
 use Rattle.script.specs.declared.Refusal.TheVariants.{CutShort, TooManyTypes, UnknownType}
 
 -- the section that stands at a place, in reading order: its count is missing, or above 1; the type is missing, or unknown; then the end
@@ -33,10 +33,10 @@ unfoldable pub choice_in : List ℕ → Walk → Choice
 choice_in script (walked events place) = lock_at script place
 choice_in script (stopped r) = None
 
--- what is read of it: the choice of a lawful one
-unfoldable pub chosen_in : Reading → Choice → Result Choice Refusal
+-- what is read of it: the choice, and of one that is refused the refusal too
+unfoldable pub chosen_in : Reading → Choice → Result Choice Unlawful
 chosen_in (lawful events) choice = Ok choice
-chosen_in (refused r) choice = Err r
+chosen_in (refused r) choice = Err (record { refusal = r; choice = choice })
 
-unfoldable pub ev1_script_of : List ℕ → Result Choice Refusal
+unfoldable pub ev1_script_of : List ℕ → Result Choice Unlawful
 ev1_script_of script = chosen_in (ev1_reading_of script) (choice_in script (body_of Ev1 script))

@@ -7,7 +7,7 @@ ghost use Rattle.script.specs.Script.{refusal_in, count_at, image_size, image_pa
 mod lock;
 
 use edition::Edition;
-pub use lock::{ev1_choice, ev1_script};
+pub use lock::{Unlawful, ev1_choice, ev1_script};
 
 // What a script is refused for, with the number that its printout has.
 #[derive(Clone, Copy)]

@@ -7,6 +7,13 @@ ghost use Rattle.script.specs.Lock.{lock_refusal, lock_at, choice_in, ev1_script
 use crate::{Refusal, body, byte, left_over};
 use edition::{Edition, Usage};
 
+// The refusal that is met first, and the choice that the script would begin with.
+#[derive(Clone, Copy)]
+pub struct Unlawful {
+    pub refusal: Refusal,
+    pub choice: Option<Usage>,
+}
+
 #[tactic(auto, unfolding(crate::specs::Lock::lock_refusal))]
 fn lock_refusal(script: &[u8], at: usize) -> Result<(), Refusal>
     ensures { result ≡ lock_refusal script.now at }
@@ -52,11 +59,22 @@ pub fn ev1_choice(script: &[u8]) -> Option<Usage>
     }
 }
 
-// The choice at the start of a lawful script, or the refusal that is met first.
-pub fn ev1_script(script: &[u8]) -> Result<Option<Usage>, Refusal>
+// What is read of any script, as an EV1's: the choice at the start, and beside it the refusal that is met first where there is one.
+pub fn ev1_script(script: &[u8]) -> Result<Option<Usage>, Unlawful>
     ensures { result ≡ ev1_script_of script.now }
 {
-    let at = body(Edition::Ev1, script)?;
-    lock_refusal(script, at)?;
-    Ok(lock_at(script, at))
+    let at = match body(Edition::Ev1, script) {
+        Ok(at) => at,
+        Err(refusal) => {
+            return Err(Unlawful {
+                refusal,
+                choice: None,
+            });
+        }
+    };
+    let choice = lock_at(script, at);
+    match lock_refusal(script, at) {
+        Ok(()) => Ok(choice),
+        Err(refusal) => Err(Unlawful { refusal, choice }),
+    }
 }

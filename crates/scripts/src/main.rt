@@ -1,6 +1,8 @@
 // Plays the scripts of data/ one after the other: each name, and then the printout.
 #![tactic(auto)]
 
+ghost use Rattle.std.specs.Prelude.{◌≤◌, length};
+
 use std::env::{Env, FillError};
 use std::fs::File;
 use std::io::Read;
@@ -8,7 +10,9 @@ use std::rt::Files;
 use std::{io, str};
 
 // Reads until the space is full, the file ends or a read fails, and hands back what came.
-fn fill<'a>(file: &mut impl Read, space: &'a mut [u8]) -> &'a [u8] {
+fn fill<'a>(file: &mut impl Read, space: &'a mut [u8]) -> &'a [u8]
+    ensures { length result.now ≤ length space.old }
+{
     let mut done = 0;
     while done < space.len() {
         match file.read(&mut space[done..]) {
@@ -20,7 +24,9 @@ fn fill<'a>(file: &mut impl Read, space: &'a mut [u8]) -> &'a [u8] {
 }
 
 // Reads a file into a space, and hands back what came; nothing where it cannot be opened, as where its path is not text.
-fn load<'a>(rt: &impl Files, path: &[u8], space: &'a mut [u8]) -> &'a [u8] {
+fn load<'a>(rt: &impl Files, path: &[u8], space: &'a mut [u8]) -> &'a [u8]
+    ensures { length result.now ≤ length space.old }
+{
     let Ok(path) = str::from_utf8(path) else {
         return &[];
     };

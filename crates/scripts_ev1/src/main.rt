@@ -2,6 +2,8 @@
 // What it has in common with `scripts` stands in both: a library's public functions must each have one result (.ci/one-result), and one that reads has none.
 #![tactic(auto)]
 
+ghost use Rattle.std.specs.Prelude.{◌≤◌, length};
+
 use std::env::{Env, FillError};
 use std::fs::File;
 use std::io::Read;
@@ -9,7 +11,9 @@ use std::rt::Files;
 use std::{io, str};
 
 // Reads until the space is full, the file ends or a read fails, and hands back what came.
-fn fill<'a>(file: &mut impl Read, space: &'a mut [u8]) -> &'a [u8] {
+fn fill<'a>(file: &mut impl Read, space: &'a mut [u8]) -> &'a [u8]
+    ensures { length result.now ≤ length space.old }
+{
     let mut done = 0;
     while done < space.len() {
         match file.read(&mut space[done..]) {
@@ -21,7 +25,9 @@ fn fill<'a>(file: &mut impl Read, space: &'a mut [u8]) -> &'a [u8] {
 }
 
 // Reads a file into a space, and hands back what came; nothing where it cannot be opened, as where its path is not text.
-fn load<'a>(rt: &impl Files, path: &[u8], space: &'a mut [u8]) -> &'a [u8] {
+fn load<'a>(rt: &impl Files, path: &[u8], space: &'a mut [u8]) -> &'a [u8]
+    ensures { length result.now ≤ length space.old }
+{
     let Ok(path) = str::from_utf8(path) else {
         return &[];
     };

@@ -5,13 +5,12 @@ use mathlib.Core.Bool.{Bool, true, false, not, false≢true}
 use mathlib.Core.List.{List, [], ◌∷◌, ◌++◌}
 use Prim.Native.Nat.{ℕ, ◌<◌, ◌≤◌}
 use lib.Dec.{ltb}
-use lib.ListN.{length, replicate}
+use lib.ListN.{length, get_or, set, replicate}
 use borrow.Author.Tests.{lt-ltb, ltb-false}
-use borrow.Rule.Slice.PartMut.{put_mid}
-use Rattle.std.proofs.Common.{rules}
-use Rattle.std.proofs.lemmas.Slice.{overwrites}
+use Rattle.value.proofs.Words.{listed}
 use Rattle.card.specs.declared.Sign.{Sign}
 use Rattle.card.specs.declared.Sign.TheVariants.{Ack, Nak, Data, Nothing}
+use Rattle.checksum.specs.Checksum.{crc_of, two_of}
 use Rattle.sealed.specs.Sealed.{unsealed, sealed_reply}
 
 -- a frame that is too short does not pass
@@ -28,9 +27,11 @@ long frame t e h = go (ltb (length frame) 3) refl
     go false f = ltb-false (length frame) 3 f
     go true f = absurd (false≢true (sym (e ∙ rw f) ∙ h))
 
--- what is put after the first k bytes, up to the end
-pub put_last : (k n : ℕ) (front room back : List ℕ) → length front ≡ k → length room ≡ n → put_mid k n (front ++ room) back ≡ front ++ back
-put_last k n front room back l m = search (rules, overwrites)
+-- sixteen bytes with room for two, and the two set
+pub put_two : (reply two : List ℕ) → length reply ≡ 16 → two ≡ two_of (crc_of reply)
+    → set (set (reply ++ (0 ∷ 0 ∷ [])) 16 (get_or two 0 0)) 17 (get_or two 1 0) ≡ reply ++ two_of (crc_of reply)
+unfolding two_of
+put_two reply two l f = rw (f, listed 16 reply l)
 
 -- what is no data has no bytes
 pub no_data_lem : (sign : Sign) (reply : List ℕ) → (sign ≡ Data → ⊥) → replicate 18 0 ≡ sealed_reply sign reply

@@ -59,7 +59,8 @@ fn with_seal(reply: [u8; 16]) -> [u8; 18]
     let seal = checksum::two(checksum::crc_a(&reply[..]));
     let mut bytes = [0u8; 18];
     bytes[..16].copy_from_slice(&reply);
-    bytes[16..].copy_from_slice(&seal);
+    bytes[16] = seal[0];
+    bytes[17] = seal[1];
     bytes
 }
 

@@ -14,7 +14,7 @@ use Rattle.tally.specs.Change.{figures_of, count_fits, sum_fits, in_range, count
 use Rattle.tally.specs.Full.{counts, share_at, total_to, count_of, sum_of, full_figures, opened_of}
 use Rattle.tally.specs.Laws.{CountEnds, SumEnds, KeptIs, SameContent, NotCounted, Counted, FullFits, OpeningFits, OpeningCounts, StoreOne, StoreOther, ChangeCounts, OpeningStays}
 use Rattle.tally.specs.declared.change.Figures.{Figures}
-use Rattle.std.specs.Prelude.{Some, None}
+use Rattle.std.specs.Prelude.{Some, None, Ok}
 use Rattle.tally.proofs.Bits.{both}
 use Rattle.tally.proofs.Shares.{raised_count, raised_sum, and_false, total_fits, total_held}
 use Rattle.tally.proofs.Ways.{kept_fit}
@@ -84,7 +84,7 @@ sum_held : (image : List ℕ) → whole (figures_of (count_of image) (sum_of ima
 sum_held image = total_held sum_share 2147483648 2147483647 raised_sum image (blocks_of (length image)) (at_most (length image)).1
 
 -- an opening of a card
-opened_card : (image : List ℕ) → (sectors_of (length image) ≡ 0 → ⊥) → opened_of image ≡ Some (full_figures image)
+opened_card : (image : List ℕ) → (sectors_of (length image) ≡ 0 → ⊥) → opened_of image ≡ Ok (full_figures image)
 unfolding opened_of
 opened_card image h = rw (ne_eqb (sectors_of (length image)) 0 h)
 

@@ -1,10 +1,12 @@
 -- The full count of an image, and its opening.
-use Rattle.std.specs.Prelude.{ℕ, zero, suc, Bool, cond, not, ◌&&◌, ◌||◌, List, length, ℤ, pos, ◌+ℤ◌, ◌==◌, Option, Some, None}
+use Rattle.std.specs.Prelude.{ℕ, zero, suc, Bool, cond, not, ◌&&◌, ◌||◌, List, length, ℤ, pos, ◌+ℤ◌, ◌==◌, Result, Ok, Err}
 use Rattle.layout.specs.Layout.{block_at, sectors_of, blocks_of, has_block, is_trailer}
 use Rattle.layout.specs.declared.Block.{Block}
 use Rattle.memory.specs.Memory.{content_of}
 use Rattle.tally.specs.Change.{figures_of, count_share, sum_share}
 use Rattle.tally.specs.declared.change.Figures.{Figures}
+use Rattle.tally.specs.declared.Refusal.{Refusal}
+use Rattle.tally.specs.declared.Refusal.TheVariants.{NoCard}
 
 -- a block counts where the card has it, and it is neither block 0 nor a trailer
 unfoldable pub counts : ℕ → Block → Bool
@@ -30,6 +32,10 @@ sum_of image = total_to sum_share image (blocks_of (length image))
 abbrev pub full_figures : List ℕ → Figures
 full_figures image = figures_of (count_of image) (sum_of image)
 
--- an opening: the full count, and none where no card has this size
-unfoldable pub opened_of : List ℕ → Option Figures
-opened_of image = cond (sectors_of (length image) == 0) None (Some (full_figures image))
+-- a refusal's number
+abbrev pub refusal_number : Refusal → ℕ
+refusal_number NoCard = 11
+
+-- an opening: the full count, and 11 where no card has this size
+unfoldable pub opened_of : List ℕ → Result Figures Refusal
+opened_of image = cond (sectors_of (length image) == 0) (Err NoCard) (Ok (full_figures image))

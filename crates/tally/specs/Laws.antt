@@ -1,5 +1,5 @@
 -- What the figures can be relied on for: what a change gives, and that the figures of an opening are the full count and one store after the other keeps them so.
-use Rattle.std.specs.Prelude.{◌≡◌, ℕ, ◌<◌, true, false, ◌||◌, List, length, pos, negsuc, ◌+ℤ◌, ◌-ℤ◌, ◌==◌, ◌≢◌, Some}
+use Rattle.std.specs.Prelude.{◌≡◌, ℕ, ◌<◌, true, false, ◌||◌, List, length, pos, negsuc, ◌+ℤ◌, ◌-ℤ◌, ◌==◌, ◌≢◌, Some, Ok}
 use Rattle.layout.specs.Layout.{sectors_of, has_block, is_trailer}
 use Rattle.layout.specs.declared.Block.{Block}
 use Rattle.memory.specs.Memory.{content_of, store_of}
@@ -46,7 +46,7 @@ OpeningFits = (image : List ℕ) → in_range (full_figures image) ≡ true
 abbrev pub OpeningCounts : Type 0
 OpeningCounts =
     (image : List ℕ) → (sectors_of (length image) ≢ 0)
-    → (opened_of image ≡ Some (full_figures image))
+    → (opened_of image ≡ Ok (full_figures image))
     × (whole (full_figures image).count ≡ count_of image)
     × (whole (full_figures image).sum ≡ sum_of image)
 

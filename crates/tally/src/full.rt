@@ -3,6 +3,7 @@ ghost use Rattle.std.specs.Prelude.{◌≡◌};
 ghost use Rattle.tally.specs.Change.{figures_of, count_share, sum_share};
 ghost use Rattle.tally.specs.Full.{share_at, full_figures, opened_of};
 
+use crate::Refusal;
 use crate::change::{Figures, added, share_of};
 use layout::Block;
 
@@ -30,13 +31,13 @@ fn count_all(image: &[u8]) -> Figures
     f
 }
 
-// The figures to keep of a card; none where no card has this size.
+// The figures to keep of a card.
 #[tactic(auto, unfolding(crate::specs::Full::opened_of))]
-pub fn open(image: &[u8]) -> Option<Figures>
+pub fn open(image: &[u8]) -> Result<Figures, Refusal>
     ensures { result ≡ opened_of image.now }
 {
     if layout::sectors_of(image.len()) == 0 {
-        return None;
+        return Err(Refusal::NoCard);
     }
-    Some(count_all(image))
+    Ok(count_all(image))
 }

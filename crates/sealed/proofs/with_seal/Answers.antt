@@ -1,12 +1,8 @@
 -- The reply stands in the first sixteen of eighteen bytes, and its checksum in the last two.
-use mathlib.Core.Path.{refl, ◌∙◌}
-use mathlib.Core.List.{[], ◌∷◌}
+use mathlib.Core.Path.{◌∙◌}
 use Rattle.std.proofs.Common.{rules}
-use Rattle.sealed.proofs.Ways.{put_last}
+use Rattle.sealed.proofs.Ways.{put_two}
 use Rattle.sealed.proofs.with_seal.Goals as goal
 
 pub returns : goal.returns
-returns c =
-    let reply = c.copy_from_slice in
-    let seal = c.copy_from_slice-2 in
-    put_last 16 2 reply.new.self (0 ∷ 0 ∷ []) seal.new.self (search rules) refl ∙ rw (reply.ensures.after, seal.ensures.after, c.two-seal.ensures, c.crc_a.ensures)
+returns c = rw c.copy_from_slice.ensures.after (put_two c.args.reply _ (search rules) (c.two-seal.ensures ∙ rw c.crc_a.ensures))

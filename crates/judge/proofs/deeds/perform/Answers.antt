@@ -6,7 +6,7 @@ use Rattle.frame.proofs.Came.{operand_length}
 use Rattle.frame.specs.declared.Command.TheVariants.{Read, Write, Store, Begin, Apply, Transfer}
 use Rattle.judge.specs.First.{first, ruled}
 use Rattle.judge.specs.Judge.{done_of}
-use Rattle.judge.specs.Code.{shown_as, stored_as}
+use Rattle.judge.specs.Code.{numbered, shown_as, stored_as}
 use Rattle.judge.specs.declared.checks.Grant.TheVariants.{Whole, InParts}
 use Rattle.judge.proofs.Lists.{stopped, passed, no_parts, no_more}
 use Rattle.judge.proofs.deeds.perform.Goals as goal
@@ -15,7 +15,7 @@ pub apply-requires : goal.apply-requires
 apply-requires c = omega (arith, operand_length _ _ _ _ _ c.requires.1 c.in-Apply.is)
 
 pub returns-in-Err : goal.returns-in-Err
-returns-in-Err c = c.refused.ensures ∙ stopped _ _ _ _ _ _ _ c.requires.0 c.column_of.ensures c.block_of.ensures c.memory_verdict.ensures _ c.in-Err.is
+returns-in-Err c = c.refused.ensures ∙ stopped _ _ _ _ _ _ _ c.requires.0 c.column_of.ensures c.block_of.ensures c.memory_verdict.ensures _ (ap numbered c.in-Err.is)
 
 pub returns-in-Read : goal.returns-in-Read
 unfolding first ruled shown_as stored_as done_of
