@@ -82,6 +82,13 @@ module _ (image : List ℕ) (k : CardRecord) (s : Session) (frame : List ℕ) wh
   unfolding card_answer_of card_image_after sealed_card_image_after
   with_seal_lem e = rw (inner_card_act e) (refl, refl)
 
+  pub answered_by_inner : unsealed frame ≡ false → sealed_card_answer_of image k s frame ≡ sealed_card_of (card_answer_of image k s (inner_of frame))
+  unfolding sealed_card_answer_of
+  answered_by_inner e = ap sealed_card_of (sym (with_seal_lem e).0)
+
+  pub stored_by_inner : unsealed frame ≡ false → sealed_card_image_after image k s frame ≡ card_image_after image k s (inner_of frame)
+  stored_by_inner e = sym (with_seal_lem e).1
+
   pub without_seal : (n : ℕ) → unsealed frame ≡ true
       → cond (wrong_size k.edition (length image)) (refuses 11) (first (frame_checks image s ++ (check 14 true ∷ []))) ≡ refuses n
       → (given_of k s.register (refusal_of n) ≡ given_for image k s (inner_of frame) (sealed_card_act_of image k s frame)) × (image ≡ sealed_card_image_after image k s frame)
@@ -95,3 +102,6 @@ pub old_sealed : (image : List ℕ) (k : CardRecord) (s : Session) (frame : List
     → (sealed_card_answer_of image k s frame ≡ record { answer = sealed_answer_of image s frame; nak = 0; card = k }) × (sealed_card_image_after image k s frame ≡ sealed_image_after image s frame)
 unfolding sealed_card_answer_of sealed_card_image_after sealed_card_act_of sealed_card_of card_act_of given_for is_personal sealed_answer_of sealed_image_after sealed_act_of
 old_sealed image k s frame e = rw e (refl, refl)
+
+-- the code's way where the frame passes 14
+pub ruleset by_inner = (answered_by_inner, stored_by_inner)

@@ -35,15 +35,15 @@ fn first_refusal(k: CardRecord, image: &[u8], s: Session) -> Refusal
 }
 
 // Any image, any record, any session, any frame: the answer, and the image as it is afterwards.
+#[tactic(auto, using(crate::proofs::Sealed::by_inner), unfolding(sealed::specs::Sealed::inner_of))]
 pub fn sealed_step(image: &mut [u8], k: CardRecord, s: Session, frame: &[u8]) -> SealedCardAnswer
     ensures value { result ≡ sealed_card_answer_of image.old k s frame.now }
     ensures image_after { image.new ≡ sealed_card_image_after image.old k s frame.now }
 {
-    let a = match sealed::inner(frame) {
-        Some(bare) => step(image, k, s, bare),
-        None => refusal(k, s, first_refusal(k, &image[..], s).number()),
-    };
-    sealed_card(a)
+    match sealed::inner(frame) {
+        Some(bare) => sealed_card(step(image, k, s, bare)),
+        None => sealed_card(refusal(k, s, first_refusal(k, &image[..], s).number())),
+    }
 }
 
 // The answer to any frame where there is no session to go by: number 14 is never looked at.

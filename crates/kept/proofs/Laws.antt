@@ -38,7 +38,7 @@ use Rattle.tally.specs.Change.{in_range}
 use Rattle.tally.specs.declared.change.Figures.{Figures}
 use Rattle.std.specs.Prelude.{Option, Some, None}
 use Rattle.tally.proofs.Laws.{not_counted}
-use Rattle.kept.specs.Kept.{settled_at, settled_by, lastly, figures_by, kept_checks, kept_act_of, kept_for, kept_answer_of, kept_image_after, sealed_kept, sealed_kept_image_after}
+use Rattle.kept.specs.Kept.{settled_at, settled_by, lastly, figures_by, kept_checks, kept_act_of, kept_for, kept_answer_of, kept_image_after, sealed_kept, sealed_kept_image_after, sealed_kept_of, sealed_kept_answer_of}
 use Rattle.kept.specs.Code.{refused_kept, after12}
 use Rattle.kept.specs.Answers.{KeptAnswer}
 use Rattle.edition.specs.declared.Usage.{Usage}
@@ -266,6 +266,13 @@ module _ (image : List ℕ) (k : CardRecord) (f : Figures) (s : Session) (frame 
   unfolding kept_answer_of kept_image_after sealed_kept_image_after
   with_seal_lem e = rw (inner_card_act image k s frame e) (refl, refl)
 
+  pub answered_by_inner : unsealed frame ≡ false → sealed_kept_answer_of image k f s frame ≡ sealed_kept_of (kept_answer_of image k f s (inner_of frame))
+  unfolding sealed_kept_answer_of
+  answered_by_inner e = ap sealed_kept_of (sym (with_seal_lem e).0)
+
+  pub stored_by_inner : unsealed frame ≡ false → sealed_kept_image_after image k f s frame ≡ kept_image_after image k f s (inner_of frame)
+  stored_by_inner e = sym (with_seal_lem e).1
+
   refused_kept_lem : unsealed frame ≡ true → (n : ℕ)
       → first (check 11 (wrong_size k.edition (length image)) ∷ (frame_checks image s ++ (check (after12 f) true ∷ []))) ≡ refuses n
       → (sealed_kept image k f s frame ≡ Refused n) × (eqb n 0 ≡ false)
@@ -294,3 +301,6 @@ module _ (image : List ℕ) (k : CardRecord) (f : Figures) (s : Session) (frame 
   without_seal e n q =
       let r = refused_kept_lem e n q in
       (rw (r.0, refusal_given image k s (inner_of frame) n r.1), rw r.0)
+
+-- the code's way where the frame passes 14
+pub ruleset by_inner = (answered_by_inner, stored_by_inner)

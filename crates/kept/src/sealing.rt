@@ -41,6 +41,7 @@ fn after_12(f: Figures) -> Refusal
 }
 
 // Any image, any record, any figures, any session, any frame: the answer, and the image as it is afterwards.
+#[tactic(auto, using(crate::proofs::Laws::by_inner), unfolding(sealed::specs::Sealed::inner_of))]
 pub fn sealed_step(
     image: &mut [u8],
     k: CardRecord,
@@ -51,11 +52,10 @@ pub fn sealed_step(
     ensures value { result ≡ sealed_kept_answer_of image.old k f s frame.now }
     ensures image_after { image.new ≡ sealed_kept_image_after image.old k f s frame.now }
 {
-    let a = match sealed::inner(frame) {
-        Some(bare) => step(image, k, f, s, bare),
-        None => refused(k, f, s, early_refusal(k, &image[..], s, after_12(f))),
-    };
-    sealed_kept(a)
+    match sealed::inner(frame) {
+        Some(bare) => sealed_kept(step(image, k, f, s, bare)),
+        None => sealed_kept(refused(k, f, s, early_refusal(k, &image[..], s, after_12(f)))),
+    }
 }
 
 // The answer to any frame where there is no session to go by.

@@ -34,7 +34,7 @@ use Rattle.play.specs.declared.text.Printer.{Printer}
 use Rattle.play.specs.Run.{sent_of, events_in, reading_for, events_of}
 use Rattle.play.specs.Results.{result_of, results_of, card_result_of, card_results_of, kept_of}
 use Rattle.play.specs.Printout.{refusal_line, header_line, event_line, event_lines, changed_from, played_of, printed, printout_of, ev1_printout_of}
-use Rattle.play.proofs.Put.{put_length, puts_then}
+use Rattle.play.proofs.Put.{put_length, put_nothing, puts_then}
 use Rattle.play.proofs.Walks.{through}
 
 -- what is known of a script that comes through to the end of its events
@@ -190,6 +190,24 @@ no_events edition script = go (reading_for edition script)
     go : (reading : Reading) → is_err (refusal_in reading) ≡ true → events_in reading ≡ []
     go (lawful events) e = cc
     go (refused r) e = refl
+
+-- and what is not lawful is refused
+not_lawful : (j : Judged) → (j ≡ Ok tt → ⊥) → is_err j ≡ true
+not_lawful (Ok tt) h = absurd (h refl)
+not_lawful (Err r) h = refl
+
+-- so it leaves what it found, and no answer
+module _ (card : CardRecord) (image : List ℕ) (edition : Edition) (script : List ℕ) where
+  pub unplayed_run : (refusal_in (reading_for edition script) ≡ Ok tt → ⊥) → run_of (begin card image) (events_of edition script) ≡ begin card image
+  unfolding run_of
+  unplayed_run h = ap (run_of (begin card image)) (no_events edition script (not_lawful _ h))
+
+  pub unplayed_answers : (refusal_in (reading_for edition script) ≡ Ok tt → ⊥) → answers_of (begin card image) (events_of edition script) ≡ []
+  unfolding answers_of
+  unplayed_answers h = ap (answers_of (begin card image)) (no_events edition script (not_lawful _ h))
+
+-- and puts nothing
+pub ruleset unplayed = (unplayed_run, unplayed_answers, put_nothing)
 
 -- the results of all answers
 pub results_kept : (i : ℕ) (answers : List CardAnswer) → kept_of (λ n. result_of) i answers ≡ results_of answers

@@ -5,6 +5,7 @@ ghost use Rattle.std.specs.Prelude.{◌≡◌, ◌*◌, ◌≤◌, length, Ok};
 ghost use Rattle.edition.specs.Edition.{old_card};
 ghost use Rattle.edition.specs.declared.Edition.TheVariants.{Old};
 ghost use Rattle.script.specs.Script.{refusal_in};
+ghost use Rattle.session.specs.Session.{fresh_of};
 ghost use Rattle.runs.specs.Run.{begin, run_of, answers_of};
 ghost use Rattle.play.specs.Text.{put_of, Put};
 ghost use Rattle.play.specs.Run.{reading_for, events_of};
@@ -45,7 +46,18 @@ fn refusal_for(edition: Edition, script: &[u8]) -> Result<(), Refusal>
     }
 }
 
-// The events of a card's script, none of a refused one, played from a fresh session; each answer is kept, from the start of a buffer.
+// What a refused script leaves: no answer, a fresh session and the record that was handed in.
+fn unplayed(card: CardRecord) -> Ended
+    ensures { result ≡ record { end = 0; session = fresh_of; card = card } }
+{
+    Ended {
+        end: 0,
+        session: session::fresh(),
+        card,
+    }
+}
+
+// The events of a card's lawful script, played from a fresh session; each answer is kept, from the start of a buffer.
 fn kept_run<F: Form>(
     form: &F,
     script: &[u8],
@@ -53,20 +65,13 @@ fn kept_run<F: Form>(
     image: &mut [u8],
     results: &mut [u8],
 ) -> Ended
-    requires { F.width * 1000 ≤ length results.old }
+    requires lawful { refusal_in (reading_for card.edition script.now) ≡ Ok tt }
+    requires room { F.width * 1000 ≤ length results.old }
     ensures put { Put results.old 0 (kept_of (F.kept form.now) 1 (answers_of (begin card image.old) (events_of card.edition script.now))) results.new result.end }
     ensures session_value { result.session ≡ (run_of (begin card image.old) (events_of card.edition script.now)).session }
     ensures card_value { result.card ≡ (run_of (begin card image.old) (events_of card.edition script.now)).card }
     ensures image_after { image.new ≡ (run_of (begin card image.old) (events_of card.edition script.now)).image }
 {
-    if refusal_for(card.edition, script).is_err() {
-        let session = session::fresh();
-        return Ended {
-            end: 0,
-            session,
-            card,
-        };
-    }
     let mut printer = Printer {
         out: results,
         at: 0,
@@ -80,6 +85,7 @@ fn kept_run<F: Form>(
 }
 
 // The events of an old card's script, none of a refused one, played on any image from a fresh session. Each result takes eighteen bytes.
+#[tactic(auto, using(crate::proofs::Whole::unplayed), unfolding(crate::specs::Run::reading_for, crate::specs::Results::results_of))]
 pub fn run(script: &[u8], image: &mut [u8], results: &mut [u8; 18000]) -> Ended
     ensures session_value { result.session ≡ (run_of (begin old_card image.old) (events_of Old script.now)).session }
     ensures card_value { result.card ≡ (run_of (begin old_card image.old) (events_of Old script.now)).card }
@@ -87,10 +93,15 @@ pub fn run(script: &[u8], image: &mut [u8], results: &mut [u8; 18000]) -> Ended
     ensures end_value { result.end ≡ length (results_of (answers_of (begin old_card image.old) (events_of Old script.now))) }
     ensures results_after { results.new ≡ put_of results.old 0 (results_of (answers_of (begin old_card image.old) (events_of Old script.now))) }
 {
-    kept_run(&Results, script, edition::old_card(), image, results)
+    let card = edition::old_card();
+    let Ok(()) = script::refusal_of(script) else {
+        return unplayed(card);
+    };
+    kept_run(&Results, script, card, image, results)
 }
 
 // The same for a card of either edition with its record, by the script of its edition; the record that is handed in is the one that it begins with. Each result takes nineteen bytes.
+#[tactic(auto, using(crate::proofs::Whole::unplayed), unfolding(crate::specs::Results::card_results_of))]
 pub fn card_run(
     script: &[u8],
     card: CardRecord,
@@ -103,6 +114,9 @@ pub fn card_run(
     ensures end_value { result.end ≡ length (card_results_of (answers_of (begin card image.old) (events_of card.edition script.now))) }
     ensures results_after { results.new ≡ put_of results.old 0 (card_results_of (answers_of (begin card image.old) (events_of card.edition script.now))) }
 {
+    let Ok(()) = refusal_for(card.edition, script) else {
+        return unplayed(card);
+    };
     kept_run(&CardResults, script, card, image, results)
 }
 
