@@ -23,7 +23,7 @@ use Rattle.script.specs.declared.lock.Unlawful.{Unlawful}
 use Rattle.script.specs.declared.Refusal.TheVariants.{CutShort, NoSuchSize, TooManyEvents, EventTooLong, LeftOver, TooManyTypes, UnknownType}
 use Rattle.script.specs.contracts.Refusal.{the_type}
 use denote.Enum.Declared.{tag_of}
-use Rattle.std.specs.Result.{is_err}
+use Rattle.std.specs.Result.{is_err, result_map_both}
 use Rattle.script.specs.Script.{number_of, Judged, Reading, lawful, refused, refusal_in, read_as, left_over, image_size, image_part, event_count, events_start, Walk, walked, stopped, events_from, no_size, body_of, ended_at, reading_of, stop_in, events_on}
 use Rattle.script.specs.Lock.{lock_refusal, locked_at, ev1_reading_of, chosen_in}
 use Rattle.script.proofs.Long.{long_refused, long_refused_ev1}
@@ -170,6 +170,11 @@ module _ (choice : Choice) where
   unfolding chosen_in refusal_in
   refused_choice (lawful events) u e = cc
   refused_choice (refused n) u e = let p : record { refusal = n; choice = choice } ≡ u = cc in ap (λ (v : Unlawful). Err v.refusal) p
+
+  pub refusal_of_choice : (reading : Reading) → result_map_both (λ c. tt) (λ (u : Unlawful). u.refusal) (chosen_in reading choice) ≡ refusal_in reading
+  unfolding chosen_in refusal_in
+  refusal_of_choice (lawful events) = refl
+  refusal_of_choice (refused r) = refl
 
 -- the number of a refusal, as the code reads it
 pub as_number : (r : Refusal) → tag_of the_type r + 20 ≡ number_of r
